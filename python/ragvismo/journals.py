@@ -29,6 +29,9 @@ BESIDE = (
     "proposed",
     "closed",
     "reopened",
+    "secured",
+    "need",
+    "tried",
 )
 Path = str | os.PathLike[str]
 FAULTS = (

@@ -36,7 +36,16 @@ REASONS = (
     "NotOwner",
     "TooMany",
 )
-BESIDE = {14: "Margin", 20: "Stale", 21: "Unproved", 23: "Closed", 24: "Open"}
+BESIDE = {
+    14: "Margin",
+    20: "Stale",
+    21: "Unproved",
+    23: "Closed",
+    24: "Open",
+    25: "NotAllowed",
+    26: "NotAsked",
+    27: "Quota",
+}
 GATE = {15: "Malformed", 16: "Old", 17: "Ahead", 18: "Changed", 19: "Sessions"}
 WHOLE = re.compile(r"0|-?[1-9][0-9]*")
 FRACTION = re.compile(r"(0|-?[1-9][0-9]*)|(-?[1-9][0-9]*)/([2-9]|[1-9][0-9]+)")
@@ -144,6 +153,18 @@ class Word:
     def shape(self, value: Any) -> None:
         is_kind = isinstance(value, type(self.words[0])) and not isinstance(value, bool)
         demand(is_kind and value in self.words, "Shape")
+
+    def grammar(self, value: Any) -> None:
+        pass
+
+    ranges = grammar
+
+
+class Truth:
+    """True or false."""
+
+    def shape(self, value: Any) -> None:
+        demand(type(value) is bool, "Shape")
 
     def grammar(self, value: Any) -> None:
         pass
@@ -300,6 +321,7 @@ POSITION = Keys(
     test=lambda held: Fraction(held["fill"]) > 0,
 )
 PRICE = Told(Text(False, least=0, size=10**12), "never", "unmarked")
+PART = Text(True, least=0)
 NEED = Told(Text(False, least=0), "positions", "unbounded", "wide", "budget", "sum")
 SESSION, MESSAGE = Number(1, 999_999_999), Number(1, 10**6)
 
@@ -365,12 +387,9 @@ def beside(value: Any) -> Kinds:
     number = value["number"]
     more: dict[int, Kinds] = {
         14: {"need": NEED},
-        20: {},
         21: {"failed": Word("BatchShape", "Fill", "Cover", "Measure", "Wide")},
-        23: {},
-        24: {},
     }
-    return {"number": Word(number), "reason": Word(BESIDE[number]), **more[number]}
+    return {"number": Word(number), "reason": Word(BESIDE[number]), **more.get(number, {})}
 
 
 def gate(value: Any) -> Kinds:
@@ -417,6 +436,19 @@ SERVED: dict[str, Shapes] = {
     },
     "closed": lambda _: {"market": MARKET, "orders": Number(0, 256)},
     "reopened": lambda _: {"market": MARKET},
+    "secured": lambda _: {"account": ACCOUNT, "need": Text(False, least=0)},
+    "need": lambda _: {
+        "account": ACCOUNT,
+        "balance": BALANCE,
+        "need": NEED,
+        "secured": Truth(),
+    },
+    "tried": lambda _: {
+        "fill": PART,
+        "mark": Word("optimal", "wide", "budget"),
+        "market": MARKET,
+        "surplus": PART,
+    },
     "cleared": lambda value: (
         bounded(value) if is_number(value.get("version"), 3) else cleared(value)
     ),
@@ -516,27 +548,36 @@ def read_run(line: bytes) -> Value:
     return read(line, value_of(line), REPLIES)
 
 
+def has_inside(value: Any, *keys: str) -> bool:
+    """Whether it is an object with a reply inside, and these keys."""
+    return type(value) is dict and set(value) == {"of", *keys} and type(value["of"]) is dict
+
+
+def inside(line: bytes, head: bytes, tail: bytes) -> tuple[bytes, Any]:
+    """The reply inside a line, and its value."""
+    demand(line.startswith(head) and line.endswith(tail), "Spelling")
+    line = line[len(head) : -len(tail)]
+    demand(line.startswith(b"{") and line.endswith(b"}"), "Spelling")
+    try:
+        return line, value_of(line)
+    except Fault:
+        raise Fault("Spelling") from None
+
+
 def read_served(line: bytes) -> Value | None:
     """The reply of a line of serve or of serve sessions, or None where it is a line of the gate."""
     value = value_of(line)
-    kinds = {"number": Number(-(2**63), 2**64), "session": Number(-(2**63), 2**64)}
-    if (
-        type(value) is dict
-        and set(value) == {"number", "of", "session"}
-        and type(value["of"]) is dict
-    ):
-        for key, kind in kinds.items():
-            kind.shape(value[key])
+    if has_inside(value, "number", "session"):
+        for key in ("number", "session"):
+            ANY.shape(value[key])
         MESSAGE.ranges(value["number"])
         SESSION.ranges(value["session"])
         head, tail = b'{"number":%d,"of":' % value["number"], b',"session":%d}' % value["session"]
-        demand(line.startswith(head) and line.endswith(tail), "Spelling")
-        line = line[len(head) : -len(tail)]
-        demand(line.startswith(b"{") and line.endswith(b"}"), "Spelling")
-        try:
-            value = value_of(line)
-        except Fault:
-            raise Fault("Spelling") from None
+        line, value = inside(line, head, tail)
+    elif has_inside(value, "reply", "session") and value["reply"] == "asked":
+        ANY.shape(value["session"])
+        SESSION.ranges(value["session"])
+        line, value = inside(line, b'{"of":', b',"reply":"asked","session":%d}' % value["session"])
     elif type(value) is dict and value.get("reply") == "gate":
         read(line, value, {"gate": gate})
         return None

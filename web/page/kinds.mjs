@@ -79,6 +79,10 @@ export const word = (...words) => value =>
     demand(typeof value === "string" && words.includes(value), "Shape",
         `a word is none of ${words.join(", ")}`);
 
+/** True or false.
+ * @type {Kind} */
+export const truth = value => demand(typeof value === "boolean", "Shape", "no truth value");
+
 // ---- numbers told as texts
 
 const FRACTION = /^(?:0|-?[1-9][0-9]*|-?[1-9][0-9]*\/(?:[2-9]|[1-9][0-9]+))$/;
@@ -103,6 +107,9 @@ const text = (grammar, isWithin) => (value, later) => {
 };
 
 export const fraction = text(FRACTION, () => true);
+
+/** A fraction that is not below 0. */
+export const part = text(FRACTION, told => !told.startsWith("-"));
 
 /** A fraction above 0. */
 export const share = text(FRACTION, told => told !== "0" && !told.startsWith("-"));

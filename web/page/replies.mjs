@@ -1,6 +1,6 @@
 // The reply lines that the exchange writes, by their word: which keys, of which kinds and ranges.
-import {amount, at, between, demand, fraction, isJust, just, list, members, number, picked, share,
-    told, word} from "./kinds.mjs";
+import {amount, at, between, demand, fraction, isJust, just, list, members, number, part, picked,
+    share, told, truth, word} from "./kinds.mjs";
 import {fractionOf, isAtMost, sizeOf} from "./fractions.mjs";
 import {NumberText} from "./json_text.mjs";
 
@@ -137,7 +137,7 @@ const numbered = (first, reasons) => reasons.map((reason, place) => [`${first + 
 const OF_RUN = new Map(numbered(1, RUN_REASONS));
 const OF_SERVE = new Map(
     [...OF_RUN, ...numbered(14, ["Margin"]), ...numbered(20, ["Stale", "Unproved"]),
-        ...numbered(23, ["Closed", "Open"])]);
+        ...numbered(23, ["Closed", "Open", "NotAllowed", "NotAsked", "Quota"])]);
 const OF_GATE = new Map(numbered(15, ["Malformed", "Old", "Ahead", "Changed", "Sessions"]));
 
 /** The keys of a refusal with one of these numbers.
@@ -188,6 +188,10 @@ const SERVE = {
         market: MARKET, surplus: fraction}),
     closed: () => ({market: MARKET, orders: number(0n, 256n)}),
     reopened: () => ({market: MARKET}),
+    secured: () => ({account: ACCOUNT, need: amount(0n)}),
+    need: () => ({account: ACCOUNT, balance: BALANCE, need: NEED, secured: truth}),
+    tried: () => ({fill: part, mark: word("optimal", "wide", "budget"), market: MARKET,
+        surplus: part}),
     cleared: reply => isJust(reply.get("version"), 3) ? BOUNDED : cleared(reply),
     refused: refusal(OF_SERVE),
     quoted: () => ({ask: PRICE, bid: PRICE, market: MARKET}),

@@ -19,7 +19,7 @@ use Rattle.exchange_core.specs.Reply.{refused_with}
 use Rattle.exchange_lines.specs.LineSteps.{IsAsRun}
 use Rattle.exchange_lines.proofs.AsRun.{output_tells}
 use Rattle.guarded_lines.specs.declared.told.ToldMargin.{ToldMargin}
-use Rattle.guarded_lines.specs.declared.told.Need.{Need}
+use Rattle.proposal_text.specs.declared.needs.Need.{Need}
 use Rattle.command_text.specs.declared.requests.MarginRequest.{MarginRequest}
 use Rattle.lists.specs.Refusals.{first_of}
 use Rattle.guarded_lines.specs.declared.replies.GuardedReply.TheVariants as reply

@@ -20,8 +20,8 @@ use Rattle.exchange_core.specs.Kept.{IsKept}
 use Rattle.exchange_core.specs.Refusals.{refusal_of}
 use Rattle.exchange_core.specs.Reserves.{reserve_in}
 use Rattle.exchange_core.specs.Step.{refusal_effect, withdraw_effect}
-use Rattle.guarded_lines.specs.declared.told.Need.{Need}
-use Rattle.guarded_lines.specs.declared.told.Need.TheVariants as need
+use Rattle.proposal_text.specs.declared.needs.Need.{Need}
+use Rattle.proposal_text.specs.declared.needs.Need.TheVariants as need
 use Rattle.portfolio_margin.specs.declared.needs.Needed.{Needed}
 use Rattle.portfolio_margin.specs.declared.needs.Needed.TheVariants.{Amount, Unbounded, Wide, Budget, Sum}
 use Rattle.portfolio_margin.specs.Laws.{AreDemandsCovered, IsCovered, MayBeAsked, Settled, gain_in}

@@ -6,7 +6,7 @@ use Rattle.std.specs.List.{sum}
 use Rattle.exact_num.specs.Fraction.{Fraction}
 use Rattle.frac.specs.Range.{limit as largest}
 use Rattle.exchange_core.specs.ExchangeState.{ExchangeState}
-use Rattle.guarded_lines.specs.declared.told.Need.{Need}
+use Rattle.proposal_text.specs.declared.needs.Need.{Need}
 use Rattle.portfolio_margin.specs.declared.needs.Needed.{Needed}
 use Rattle.portfolio_margin.specs.declared.needs.Needed.TheVariants.{Amount, Sum}
 use Rattle.portfolio_margin.specs.Need.{Demand, Counted, demand_amount, demand_word, liability_or_word, demands_of, first_demand_word, first_word, need_of, or_word, demand_sum, sum_need, word_or}

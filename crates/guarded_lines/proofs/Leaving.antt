@@ -9,7 +9,7 @@ use Rattle.exchange_core.specs.declared.refusal.Refusal.{Refusal}
 use Rattle.exchange_core.specs.declared.refusal.Refusal.TheVariants.{NoAccount, Funds}
 use Rattle.exchange_core.specs.ExchangeState.{ExchangeState}
 use Rattle.exchange_core.specs.Reserves.{free_in, reserve_in}
-use Rattle.guarded_lines.specs.declared.told.Need.{Need}
+use Rattle.proposal_text.specs.declared.needs.Need.{Need}
 use Rattle.guarded_lines.specs.Needs.{need_in}
 use Rattle.guarded_lines.specs.Withdrawals.{IsLeftBy, covers, is_refused, left_in, uncovered_withdrawal}
 

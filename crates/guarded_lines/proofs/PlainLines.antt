@@ -6,14 +6,12 @@ use Rattle.reply_print.specs.BatchPieces.{whole_words}
 use Rattle.reply_print.specs.Numbers.{fraction_text}
 use Rattle.reply_print.specs.OutcomePieces.{state_entries}
 use Rattle.reply_print.specs.Written.{is_plain}
-use Rattle.reply_print.proofs.Digits.{plain-decimal, plain-fraction_text, plain-signed_decimal}
+use Rattle.reply_print.proofs.Digits.{plain-fraction_text, plain-signed_decimal}
 use Rattle.reply_print.proofs.PlainPieces.{HasPlainTexts, each_plain}
 use Rattle.guarded_lines.specs.declared.told.ToldMargin.{ToldMargin}
 use Rattle.guarded_lines.specs.declared.told.ToldMargin.TheVariants.{Least, Unbounded, Wide, Budget}
-use Rattle.guarded_lines.specs.declared.told.Need.{Need}
-use Rattle.guarded_lines.specs.declared.told.Need.TheVariants as need
 use Rattle.command_text.specs.declared.requests.MarginRequest.{MarginRequest}
-use Rattle.guarded_lines.specs.Told.{margin_piece, margin_with, need_text, uncovered_piece}
+use Rattle.guarded_lines.specs.Told.{margin_piece, margin_with}
 
 with_plain : (line : ℕ) (request : MarginRequest) (text : List ℕ) (at : State) → is_plain text ≡ true → HasPlainTexts (margin_with line request text at)
 with_plain line request text at plain =
@@ -24,14 +22,3 @@ margin_plain line request (Least liability at) = with_plain line request (fracti
 margin_plain line request (Unbounded ray) = with_plain line request (codes "unbounded") ray refl
 margin_plain line request Wide = (refl, tt, (refl, tt, (refl, refl, (refl, tt, (refl, refl, tt)))))
 margin_plain line request Budget = (refl, tt, (refl, tt, (refl, refl, (refl, tt, (refl, refl, tt)))))
-
-pub need_plain : (need : Need) → is_plain (need_text need) ≡ true
-need_plain (need.Amount amount) = plain-decimal amount
-need_plain need.Positions = refl
-need_plain need.Unbounded = refl
-need_plain need.Wide = refl
-need_plain need.Budget = refl
-need_plain need.Sum = refl
-
-pub uncovered_plain : (line : ℕ) (need : Need) → HasPlainTexts (uncovered_piece line need)
-uncovered_plain line need = (refl, tt, (refl, need_plain need, (refl, tt, (refl, refl, (refl, refl, tt)))))

@@ -9,7 +9,7 @@ use Rattle.settlement.specs.declared.position.Position.{Position}
 use Rattle.table_run.specs.Ending.{Ending}
 use Rattle.exchange_core.specs.ExchangeState.{ExchangeState}
 use Rattle.guarded_lines.specs.declared.told.ToldMargin.TheVariants as told
-use Rattle.guarded_lines.specs.declared.told.Need.TheVariants as need
+use Rattle.proposal_text.specs.declared.needs.Need.TheVariants as need
 use Rattle.portfolio_margin.specs.declared.least_margin.LeastMargin.{LeastMargin}
 use Rattle.portfolio_margin.specs.declared.least_margin.LeastMargin.TheVariants.{Least, Unbounded, Wide, Budget}
 use Rattle.portfolio_margin.specs.Answers.{IsMarginOf}

@@ -4,8 +4,8 @@ use Rattle.exact_num.specs.Fraction.{Fraction}
 use Rattle.table_run.specs.Ending.{Ending, done, unbounded, wide_at, no_unit_left}
 use Rattle.exchange_core.specs.ExchangeState.{ExchangeState}
 use Rattle.exchange_core.specs.Held.{markets_of}
-use Rattle.guarded_lines.specs.declared.told.Need.{Need}
-use Rattle.guarded_lines.specs.declared.told.Need.TheVariants as need
+use Rattle.proposal_text.specs.declared.needs.Need.{Need}
+use Rattle.proposal_text.specs.declared.needs.Need.TheVariants as need
 use Rattle.portfolio_margin.specs.declared.least_margin.LeastMargin.{LeastMargin}
 use Rattle.portfolio_margin.specs.declared.needs.Needed.{Needed}
 use Rattle.portfolio_margin.specs.declared.needs.Needed.TheVariants.{Amount, Unbounded, Wide, Budget, Sum}

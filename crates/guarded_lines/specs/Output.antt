@@ -3,13 +3,13 @@ use Rattle.std.specs.Prelude.{◌≡◌, ◌⊎◌, ℕ, List, [], ◌∷◌, �
 use Rattle.exchange_core.specs.ExchangeState.{ExchangeState}
 use Rattle.exchange_lines.specs.LineSteps.{IsRefusalText}
 use Rattle.guarded_lines.specs.declared.told.ToldMargin.{ToldMargin}
-use Rattle.guarded_lines.specs.declared.told.Need.{Need}
+use Rattle.proposal_text.specs.declared.needs.Need.{Need}
 use Rattle.command_text.specs.declared.requests.MarginRequest.{MarginRequest}
 use Rattle.command_text.specs.Said.{said_in}
 use Rattle.command_text.specs.declared.words.TheConstants.{GUARDED}
-use Rattle.guarded_lines.specs.Told.{margin_line, uncovered_line}
+use Rattle.guarded_lines.specs.Told.{margin_line}
 use Rattle.guarded_lines.specs.declared.replies.GuardedReply.{GuardedReply}
-use Rattle.guarded_lines.specs.Replies.{guarded_reply_line, guarded_reply_to}
+use Rattle.guarded_lines.specs.Replies.{guarded_reply_line, guarded_reply_to, uncovered_line}
 
 -- the line of a reply, with its line feed
 abbrev pub written_reply : ℕ → GuardedReply × ExchangeState → List ℕ × ExchangeState

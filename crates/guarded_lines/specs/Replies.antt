@@ -8,7 +8,11 @@ use Rattle.command_text.specs.Commands.{body_of_said}
 use Rattle.command_text.specs.declared.asked.Fault.{Fault}
 use Rattle.command_text.specs.declared.requests.Request.{Request}
 use Rattle.command_text.specs.declared.requests.Request.TheVariants as asks
-use Rattle.guarded_lines.specs.Told.{margin_line, uncovered_line}
+use Rattle.guarded_lines.specs.Told.{margin_line}
+use Rattle.proposal_text.specs.declared.needs.Need.{Need}
+use Rattle.proposal_text.specs.declared.replies.AccountReply.TheVariants as account
+use Rattle.proposal_text.specs.declared.replies.ProposalReply.TheVariants.{Account}
+use Rattle.proposal_text.specs.Pieces.{proposal_line}
 use Rattle.reply_print.specs.ReplyPieces.{reply_line}
 use Rattle.guarded_lines.specs.declared.replies.GuardedReply.{GuardedReply}
 use Rattle.guarded_lines.specs.declared.replies.GuardedReply.TheVariants.{Plain, Margin, Uncovered}
@@ -28,6 +32,10 @@ covered_reply_to state said =
 abbrev pub guarded_reply_to : ExchangeState → Result Request Fault → GuardedReply × ExchangeState
 guarded_reply_to state (Ok (asks.Margin request)) = (margin_reply state request, state)
 guarded_reply_to state said = covered_reply_to state (body_of_said said)
+
+-- the line of a withdrawal that is refused for want of margin, without its line feed
+abbrev pub uncovered_line : ℕ → Need → List ℕ
+uncovered_line number need = proposal_line number (Account (account.Uncovered need))
 
 -- the line of a reply, without its line feed
 abbrev pub guarded_reply_line : ℕ → GuardedReply → List ℕ

@@ -1,5 +1,5 @@
 -- What is told of margins is written as this.
-use Rattle.std.specs.Prelude.{ℕ, List, codes, decimal}
+use Rattle.std.specs.Prelude.{ℕ, List, codes}
 use Rattle.form.specs.declared.states.State.{State}
 use Rattle.frac.specs.Value.{fraction_of}
 use Rattle.reply_print.specs.BatchPieces.{natural, whole_words, each}
@@ -8,8 +8,6 @@ use Rattle.reply_print.specs.OutcomePieces.{state_entries}
 use Rattle.reply_print.specs.Piece.{Piece, words, object, no_fields, field, piece_text}
 use Rattle.guarded_lines.specs.declared.told.ToldMargin.{ToldMargin}
 use Rattle.guarded_lines.specs.declared.told.ToldMargin.TheVariants.{Least, Unbounded, Wide, Budget}
-use Rattle.guarded_lines.specs.declared.told.Need.{Need}
-use Rattle.guarded_lines.specs.declared.told.Need.TheVariants as need
 use Rattle.command_text.specs.declared.requests.MarginRequest.{MarginRequest}
 
 -- ---- margins
@@ -46,24 +44,3 @@ margin_piece line request Budget = margin_without line request (margin_text Budg
 -- the line of a margin that was asked for, without its line feed
 abbrev pub margin_line : ℕ → MarginRequest → ToldMargin → List ℕ
 margin_line line request margin = piece_text (margin_piece line request margin)
-
--- ---- needs
-abbrev pub need_text : Need → List ℕ
-need_text (need.Amount amount) = decimal amount
-need_text need.Positions = codes "positions"
-need_text need.Unbounded = codes "unbounded"
-need_text need.Wide = codes "wide"
-need_text need.Budget = codes "budget"
-need_text need.Sum = codes "sum"
-
-abbrev pub uncovered_piece : ℕ → Need → Piece
-uncovered_piece line need =
-    object (field (codes "line") (natural line)
-    (field (codes "need") (words (need_text need))
-    (field (codes "number") (natural 14)
-    (field (codes "reason") (words (codes "Margin"))
-    (field (codes "reply") (words (codes "refused")) no_fields)))))
-
--- the line of a withdrawal that is refused for want of margin, without its line feed
-abbrev pub uncovered_line : ℕ → Need → List ℕ
-uncovered_line line need = piece_text (uncovered_piece line need)

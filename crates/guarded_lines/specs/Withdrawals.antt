@@ -7,8 +7,8 @@ use Rattle.command_text.specs.declared.command.Command.TheVariants.{Withdraw}
 use Rattle.exchange_core.specs.ExchangeState.{ExchangeState}
 use Rattle.exchange_core.specs.Refusals.{refusal_of}
 use Rattle.exchange_core.specs.Reserves.{free_in}
-use Rattle.guarded_lines.specs.declared.told.Need.{Need}
-use Rattle.guarded_lines.specs.declared.told.Need.TheVariants.{Amount}
+use Rattle.proposal_text.specs.declared.needs.Need.{Need}
+use Rattle.proposal_text.specs.declared.needs.Need.TheVariants.{Amount}
 use Rattle.guarded_lines.specs.Needs.{need_in}
 
 -- so much is what is needed; a word is never covered

@@ -12,4 +12,4 @@ mod withdrawals;
 
 pub use answers::{answer, answer_said};
 pub use replies::{GuardedReply, reply_to};
-pub use told::{Need, ToldMargin, print_margin, print_uncovered};
+pub use told::{ToldMargin, print_margin};

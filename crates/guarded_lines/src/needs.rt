@@ -4,9 +4,9 @@ ghost use Rattle.guarded_lines.specs.Needs.{IsDemandOf, need_as, need_in, liabil
 ghost use Rattle.portfolio_margin.specs.Need.{demand_word, liability_or_word};
 
 use crate::margins::margin_in;
-use crate::told::Need;
 use exchange_core::Exchange;
 use portfolio_margin::{LeastMargin, Needed, need};
+use proposal_text::Need;
 use std::alloc::{AllocError, Global};
 
 // The units of work of each margin that a withdrawal asks for.

@@ -4,12 +4,13 @@ ghost use Rattle.command_text.specs.Within.{BodyIsWithin, RequestIsWithin};
 ghost use Rattle.guarded_lines.specs.Replies.{covered_reply_to, guarded_reply_line, guarded_reply_to};
 
 use crate::margins::margin_reply;
-use crate::told::{Need, ToldMargin, print_margin, print_uncovered};
+use crate::told::{ToldMargin, print_margin};
 use crate::withdrawals::uncovered_by;
 use command_text::asked::Fault;
 use command_text::bodies::body_of_said;
 use command_text::{Body, MarginRequest, Request};
 use exchange_core::{Exchange, Reply};
+use proposal_text::{AccountReply, Need, ProposalReply, print_proposal_reply};
 use std::alloc::{AllocError, Global};
 
 /// What a line is answered where it may ask for a margin.
@@ -73,6 +74,9 @@ pub(crate) fn print(alloc: Global, line: u32, reply: &GuardedReply) -> Result<Ve
     match reply {
         GuardedReply::Plain(reply) => reply_print::print(alloc, line, reply),
         GuardedReply::Margin { request, margin } => print_margin(alloc, line, request, margin),
-        GuardedReply::Uncovered { need } => print_uncovered(alloc, line, *need),
+        GuardedReply::Uncovered { need } => {
+            let told = ProposalReply::Account(AccountReply::Uncovered { need: *need });
+            print_proposal_reply(alloc, line, &told)
+        }
     }
 }

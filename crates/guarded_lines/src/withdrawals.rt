@@ -3,9 +3,9 @@ ghost use Rattle.std.specs.Prelude.{◌≡◌, ◌≤ℤ◌, ◌<ℤ◌, ◌-ℤ
 ghost use Rattle.guarded_lines.specs.Withdrawals.{IsLeftBy, covers, uncovered_by, uncovered_withdrawal};
 
 use crate::needs::need_of;
-use crate::told::Need;
 use command_text::{Body, Command};
 use exchange_core::Exchange;
+use proposal_text::Need;
 use std::alloc::{AllocError, Global};
 
 // What of a balance is left after its reserve and an amount, where that is not below 0.

@@ -26,8 +26,10 @@ use Rattle.reply_text.proofs.FiveTests.{json_of-piece}
 use Rattle.reply_text.proofs.RoundTrip.{reading-reply_line}
 use Rattle.reply_text.proofs.Taken.{natural_taken}
 use Rattle.reply_text.proofs.TakenReplies.{then_taken}
+use Rattle.proposal_text.specs.declared.replies.AccountReply.TheVariants.{Secured, Needs, Uncovered}
+use Rattle.proposal_text.specs.declared.replies.Bar.TheVariants.{NotAllowed, NotAsked, OverQuota}
 use Rattle.proposal_text.specs.declared.replies.ProposalReply.{ProposalReply}
-use Rattle.proposal_text.specs.declared.replies.ProposalReply.TheVariants.{Book, Positions, Proposed, Bounded as BoundedReply, Stale, Unproved, Closed, Reopened, MarketIsClosed, MarketIsOpen}
+use Rattle.proposal_text.specs.declared.replies.ProposalReply.TheVariants.{Book, Positions, Proposed, Bounded as BoundedReply, Stale, Unproved, Closed, Reopened, MarketIsClosed, MarketIsOpen, Account, Tried, Barred}
 use Rattle.proposal_text.specs.Pieces.{proposal_piece}
 use Rattle.proposal_text.specs.ReplyValues.{proposal_tests}
 use Rattle.proposal_text.proofs.PlainProposals.{reply_plain as proposal_plain}
@@ -35,7 +37,7 @@ use Rattle.proposal_text.proofs.ReadExactly.{reply_reads}
 use Rattle.proposal_text.proofs.WrittenProposals.{reply_written as proposal_written}
 use Rattle.guarded_lines.specs.declared.told.ToldMargin.TheVariants as told
 use Rattle.journal_audit.specs.declared.asked_replies.AskedReply.{AskedReply}
-use Rattle.journal_audit.specs.declared.asked_replies.AskedReply.TheVariants.{Quoted, Priced, Margin, Uncovered}
+use Rattle.journal_audit.specs.declared.asked_replies.AskedReply.TheVariants.{Quoted, Priced, Margin}
 use Rattle.journal_audit.specs.AskedLines.{asked_piece}
 use Rattle.journal_audit.specs.AskedValues.{asked_tests}
 use Rattle.journal_audit.proofs.AskedExactly.{asked_plain, asked_reads, asked_written}
@@ -81,6 +83,9 @@ proposal_sound (Closed market orders) h = refl
 proposal_sound (Reopened market) h = refl
 proposal_sound MarketIsClosed h = refl
 proposal_sound MarketIsOpen h = refl
+proposal_sound (Account told) h = refl
+proposal_sound (Tried market trial) h = refl
+proposal_sound (Barred bar) h = refl
 
 -- ---- values of lines that are none of a run
 
@@ -107,6 +112,13 @@ proposal_beside line (Closed market orders) = record { shape = refl; accepted = 
 proposal_beside line (Reopened market) = record { shape = refl; accepted = refl; gate = refl }
 proposal_beside line MarketIsClosed = record { shape = refl; accepted = refl; gate = refl }
 proposal_beside line MarketIsOpen = record { shape = refl; accepted = refl; gate = refl }
+proposal_beside line (Account (Secured account amount)) = record { shape = refl; accepted = refl; gate = refl }
+proposal_beside line (Account (Needs needed)) = record { shape = refl; accepted = refl; gate = refl }
+proposal_beside line (Account (Uncovered n)) = record { shape = refl; accepted = refl; gate = refl }
+proposal_beside line (Tried market trial) = record { shape = refl; accepted = refl; gate = refl }
+proposal_beside line (Barred NotAllowed) = record { shape = refl; accepted = refl; gate = refl }
+proposal_beside line (Barred NotAsked) = record { shape = refl; accepted = refl; gate = refl }
+proposal_beside line (Barred OverQuota) = record { shape = refl; accepted = refl; gate = refl }
 
 asked_beside : (line : ℕ) (reply : AskedReply) → IsBeside (piece_data (asked_piece line reply))
 asked_beside line (Quoted market bid ask) = record { shape = refl; accepted = refl; gate = refl }
@@ -115,7 +127,6 @@ asked_beside line (Margin account market (told.Least liability at)) = record { s
 asked_beside line (Margin account market (told.Unbounded ray)) = record { shape = refl; accepted = refl; gate = refl }
 asked_beside line (Margin account market told.Wide) = record { shape = refl; accepted = refl; gate = refl }
 asked_beside line (Margin account market told.Budget) = record { shape = refl; accepted = refl; gate = refl }
-asked_beside line (Uncovered n) = record { shape = refl; accepted = refl; gate = refl }
 
 gate_beside : (line : ℕ) (refused : GateLine) → IsOfGate (piece_data (gate_piece line refused))
 gate_beside line Malformed = record { shape = refl; accepted = refl; gate = refl }
@@ -146,7 +157,7 @@ abbrev IsObject : Piece → Type 0
 IsObject (object fs) = Unit {0}
 IsObject (whole z) = ⊥
 IsObject (words text) = ⊥
-IsObject (truth yes) = ⊥
+IsObject (truth b) = ⊥
 IsObject (list ps) = ⊥
 
 run_object : (line : ℕ) (reply : Reply) → IsObject (reply_piece line reply)
@@ -172,6 +183,11 @@ proposal_object line (Closed market orders) = tt
 proposal_object line (Reopened market) = tt
 proposal_object line MarketIsClosed = tt
 proposal_object line MarketIsOpen = tt
+proposal_object line (Account (Secured account amount)) = tt
+proposal_object line (Account (Needs needed)) = tt
+proposal_object line (Account (Uncovered n)) = tt
+proposal_object line (Tried market trial) = tt
+proposal_object line (Barred bar) = tt
 
 asked_object : (line : ℕ) (reply : AskedReply) → IsObject (asked_piece line reply)
 asked_object line (Quoted market bid ask) = tt
@@ -180,13 +196,12 @@ asked_object line (Margin account market (told.Least liability at)) = tt
 asked_object line (Margin account market (told.Unbounded ray)) = tt
 asked_object line (Margin account market told.Wide) = tt
 asked_object line (Margin account market told.Budget) = tt
-asked_object line (Uncovered n) = tt
 
 object_data : (p : Piece) → IsObject p → is_object (piece_data p) ≡ true
 object_data (object fs) h = refl
 object_data (whole z) h = absurd h
 object_data (words text) h = absurd h
-object_data (truth yes) h = absurd h
+object_data (truth b) h = absurd h
 object_data (list ps) h = absurd h
 
 -- the last byte is a closing brace
@@ -212,7 +227,7 @@ object_braced : (p : Piece) → IsObject p → is_braced (piece_text p) ≡ true
 object_braced (object fs) h = last_is (fields_text false fs) (fields_end false fs)
 object_braced (whole z) h = absurd h
 object_braced (words text) h = absurd h
-object_braced (truth yes) h = absurd h
+object_braced (truth b) h = absurd h
 object_braced (list ps) h = absurd h
 
 -- ---- lines of `serve`
@@ -268,6 +283,13 @@ proposal_tells line (Closed market orders) = refl
 proposal_tells line (Reopened market) = refl
 proposal_tells line MarketIsClosed = refl
 proposal_tells line MarketIsOpen = refl
+proposal_tells line (Account (Secured account amount)) = refl
+proposal_tells line (Account (Needs needed)) = refl
+proposal_tells line (Account (Uncovered n)) = refl
+proposal_tells line (Tried market trial) = refl
+proposal_tells line (Barred NotAllowed) = refl
+proposal_tells line (Barred NotAsked) = refl
+proposal_tells line (Barred OverQuota) = refl
 
 proposal_found_sound : (text : List ℕ) (reply : ProposalReply) → IsProposedLineOf text reply → IsFoundSound text
 proposal_found_sound text reply h =
@@ -281,7 +303,7 @@ proposal_found_sound text reply h =
 -- it tells no proposal
 record IsAsked (d : Data) : Type 0 where
   proposal : tells_proposal (word_at (codes "reply") d) d ≡ false
-  asked : tells_asked (word_at (codes "reply") d) d ≡ true
+  asked : tells_asked (word_at (codes "reply") d) ≡ true
 
 asked_tells : (line : ℕ) (reply : AskedReply) → IsAsked (piece_data (asked_piece line reply))
 asked_tells line (Quoted market bid ask) = record { proposal = refl; asked = refl }
@@ -290,7 +312,6 @@ asked_tells line (Margin account market (told.Least liability at)) = record { pr
 asked_tells line (Margin account market (told.Unbounded ray)) = record { proposal = refl; asked = refl }
 asked_tells line (Margin account market told.Wide) = record { proposal = refl; asked = refl }
 asked_tells line (Margin account market told.Budget) = record { proposal = refl; asked = refl }
-asked_tells line (Uncovered n) = record { proposal = refl; asked = refl }
 
 asked_found_sound : (text : List ℕ) (reply : AskedReply) → IsToldLineOf text reply → IsFoundSound text
 asked_found_sound text reply h =

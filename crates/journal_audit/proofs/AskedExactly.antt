@@ -1,20 +1,17 @@
--- A line that tells a quote, prices, a margin or a need is read as that exactly where it is its
--- print.
-use Rattle.std.proofs.Common.{◌≡◌, ℕ, ◌≤◌, pos, int_le, unsigned_abs, List, true, Ok, option_and_then, codes, refl, ap, ◌∙◌, arith}
+-- A line that tells a quote, prices or a margin is read as that exactly where it is its print.
+use Rattle.std.proofs.Common.{◌≡◌, ℕ, ◌≤◌, List, true, Ok, codes, refl, ap, ◌∙◌, arith}
 use Rattle.std.specs.Prelude.{⊤}
 use Rattle.std.specs.List.{AllByRecursion}
 use Rattle.std.specs.Str.{bytes_eq}
-use Rattle.frac.specs.Range.{limit}
 use Rattle.frac.specs.Value.{fraction_of}
 use Rattle.form.specs.Between.{Between}
 use Rattle.form.specs.declared.limits.TheConstants.{MAX_PRICE, MAX_QUANTITY}
 use Rattle.form.specs.declared.states.State.{State}
 use Rattle.serde_json.specs.Data.{Data}
-use Rattle.guarded_lines.specs.declared.told.Need.TheVariants as need
 use Rattle.guarded_lines.specs.declared.told.ToldMargin.{ToldMargin}
 use Rattle.guarded_lines.specs.declared.told.ToldMargin.TheVariants as told
 use Rattle.guarded_lines.specs.Told.{margin_piece, margin_with}
-use Rattle.guarded_lines.proofs.PlainLines.{margin_plain, need_plain, uncovered_plain}
+use Rattle.guarded_lines.proofs.PlainLines.{margin_plain}
 use Rattle.quote_lines.specs.declared.prices.QuotedPrice.TheVariants as price
 use Rattle.quote_lines.proofs.QuotedPlain.{price_plain, priced_plain, quoted_plain}
 use Rattle.limits.specs.declared.TheConstants.{MAX_ACCOUNT, MAX_MARKET}
@@ -26,25 +23,25 @@ use Rattle.reply_print.specs.Written.{IsWritten, is_plain}
 use Rattle.reply_print.proofs.Digits.{plain-fraction_text, plain-signed_decimal}
 use Rattle.reply_print.proofs.PlainPieces.{HasPlainTexts}
 use Rattle.reply_print.proofs.WrittenReplies.{each_written, short}
-use Rattle.reply_text.specs.BatchValues.{fraction_from, whole_from}
-use Rattle.reply_text.specs.ReplyValues.{account_at, market_at, not_below}
+use Rattle.reply_text.specs.BatchValues.{fraction_from}
+use Rattle.reply_text.specs.ReplyValues.{account_at, market_at}
 use Rattle.reply_text.specs.Taking.{take_at}
 use Rattle.reply_text.proofs.FiveTests.{IsPairWithin, pair_sound, passes, written_passes}
-use Rattle.reply_text.proofs.Sound.{Sound, any, after, mapped, either, where_true, at_key, natural_sound, whole_sound}
+use Rattle.reply_text.proofs.Sound.{Sound, any, after, mapped, either, natural_sound}
 use Rattle.reply_text.proofs.SoundCleared.{IsStateWithin, state_sound}
 use Rattle.reply_print.specs.Look.{word_at}
 use Rattle.journal_audit.specs.declared.asked_replies.AskedReply.{AskedReply}
-use Rattle.journal_audit.specs.declared.asked_replies.AskedReply.TheVariants.{Quoted, Priced, Margin, Uncovered}
-use Rattle.journal_audit.specs.AskedLines.{IsAskedLineWithin, IsAskedWithin, IsMarginWithin, IsNeedWithin, IsPriceWithin, asked_line, asked_piece, request_for}
+use Rattle.journal_audit.specs.declared.asked_replies.AskedReply.TheVariants.{Quoted, Priced, Margin}
+use Rattle.journal_audit.specs.AskedLines.{IsAskedLineWithin, IsAskedWithin, IsMarginWithin, IsPriceWithin, asked_line, asked_piece, request_for}
 use Rattle.journal_audit.specs.AskedLaws.{AskedReadExactly}
 use Rattle.journal_audit.proofs.AskedTaken.{asked_taken}
-use Rattle.journal_audit.specs.AskedValues.{IsAskedLineOf, asked_by, asked_reading, asked_replies, asked_tests, least_from, margin_from, need_by, price_at, priced_from, quoted_from, size_at, told_by, uncovered_from}
+use Rattle.proposal_text.proofs.SoundNeeds.{size_sound}
+use Rattle.journal_audit.specs.AskedValues.{IsAskedLineOf, asked_by, asked_reading, asked_replies, asked_tests, least_from, margin_from, price_at, priced_from, quoted_from, told_by}
 
 pub asked_plain : (line : ℕ) (reply : AskedReply) → HasPlainTexts (asked_piece line reply)
 asked_plain line (Quoted market bid ask) = quoted_plain line market bid ask
 asked_plain line (Priced market quantity ask bid) = priced_plain line market quantity ask bid
 asked_plain line (Margin account market margin) = margin_plain line (request_for account market) margin
-asked_plain line (Uncovered n) = uncovered_plain line n
 
 -- ---- what is written is shallow, and its keys rise
 
@@ -87,18 +84,8 @@ asked_written line (Priced market quantity ask bid) h = (
   ),
 )
 asked_written line (Margin account market margin) h = margin_written line account market h.0 h.1.0 h.1.1 margin h.1.2
-asked_written line (Uncovered n) h = (refl, (refl, short line (omega arith), (refl, need_plain n, (refl, refl, (refl, refl, (refl, refl, tt))))))
 
 -- ---- what is taken out is within its ranges
-
-held : (bound : ℕ) (d : Data) → Sound (λ z. unsigned_abs z ≤ bound) (option_and_then not_below (whole_from bound d))
-held bound d =
-    after (λ z. unsigned_abs z ≤ bound) (λ z. unsigned_abs z ≤ bound) not_below (whole_from bound d) (whole_sound bound d)
-    (λ z h. where_true (λ y. unsigned_abs y ≤ bound) (int_le (pos 0) z) z (λ e. h))
-
-size_sound : (bound : ℕ) (key : List ℕ) (d : Data) → Sound (λ n. n ≤ bound) (size_at bound key d)
-size_sound bound key d =
-    mapped (λ z. unsigned_abs z ≤ bound) (λ n. n ≤ bound) unsigned_abs _ (at_key (λ z. unsigned_abs z ≤ bound) key (λ e. option_and_then not_below (whole_from bound e)) d (held bound)) (λ z h. h)
 
 price_sound : (key : List ℕ) (d : Data) → Sound IsPriceWithin (price_at key d)
 price_sound key d =
@@ -136,22 +123,10 @@ margin_sound d =
     (λ account a. after IsMarket IsAskedWithin _ (market_at d) (natural_sound 1 MAX_MARKET (codes "market") d)
     (λ market m. mapped IsMarginWithin IsAskedWithin (Margin account market) _ (told_sound (word_at (codes "margin") d) d) (λ margin l. (a, m, l))))
 
-need_sound : (word : List ℕ) (d : Data) → Sound IsNeedWithin (need_by word d)
-need_sound word d =
-    either IsNeedWithin (bytes_eq word (codes "positions")) _ _ tt
-    (either IsNeedWithin (bytes_eq word (codes "unbounded")) _ _ tt
-    (either IsNeedWithin (bytes_eq word (codes "wide")) _ _ tt
-    (either IsNeedWithin (bytes_eq word (codes "budget")) _ _ tt
-    (either IsNeedWithin (bytes_eq word (codes "sum")) _ _ tt (mapped (λ n. n ≤ limit) IsNeedWithin need.Amount _ (size_sound limit (codes "need") d) (λ n h. omega (arith, h)))))))
-
-uncovered_sound : (d : Data) → Sound IsAskedWithin (uncovered_from d)
-uncovered_sound d = mapped IsNeedWithin IsAskedWithin Uncovered _ (need_sound (word_at (codes "need") d) d) (λ n h. h)
-
 asked_sound : (word : List ℕ) (d : Data) → Sound IsAskedWithin (asked_by word d)
 asked_sound word d =
     either IsAskedWithin (bytes_eq word (codes "quoted")) _ _ (quoted_sound d)
-    (either IsAskedWithin (bytes_eq word (codes "priced")) _ _ (priced_sound d)
-    (either IsAskedWithin (bytes_eq word (codes "margin")) _ _ (margin_sound d) (uncovered_sound d)))
+    (either IsAskedWithin (bytes_eq word (codes "priced")) _ _ (priced_sound d) (margin_sound d))
 
 pub asked_line_of : (text : List ℕ) (line : ℕ) (reply : AskedReply) → asked_reading text ≡ Ok (line, reply) → IsAskedLineOf text line reply
 asked_line_of text line reply e = passes asked_tests text (IsPairWithin IsAskedWithin) (pair_sound asked_replies IsAskedWithin asked_sound) (line, reply) e

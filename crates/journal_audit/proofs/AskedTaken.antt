@@ -1,22 +1,16 @@
 -- What is told of quotes, prices and margins is taken out of its line again.
-use Rattle.std.proofs.Common.{◌≡◌, ℕ, suc, ◌+◌, ◌≤◌, ◌<◌, ◌^◌, ℤ, pos, negsuc, unsigned_abs, List, [], ◌∷◌, ◌++◌, Bool, true, false, ◌||◌, ◌==◌, nat_le, nat_eq, Option, Some, option_map, option_and_then, codes, decimal, if◌then◌else◌, refl, ap, ◌∙◌, arith}
-use Rattle.std.specs.List.{AllByRecursion, list_all}
+use Rattle.std.proofs.Common.{◌≡◌, ℕ, unsigned_abs, List, ◌∷◌, ◌++◌, Bool, true, false, ◌||◌, ◌==◌, nat_le, Option, Some, option_map, option_and_then, codes, decimal, if◌then◌else◌, refl, ap, ◌∙◌, arith}
+use Rattle.std.specs.List.{AllByRecursion}
 use Rattle.std.specs.Fmt.{signed_decimal}
 use Rattle.std.specs.Str.{bytes_eq}
-use Rattle.std.proofs.lemmas.Bool.{and_from, and_parts, le-leb}
-use Rattle.std.proofs.lemmas.Bool.Decides.{nat_tests}
-use Rattle.std.proofs.lemmas.Int.{ints}
+use Rattle.std.proofs.lemmas.Bool.{and_from}
 use Rattle.std.proofs.lemmas.List.Folds.{list_all-append}
 use Rattle.frac.specs.declared.frac128.Frac128.{Frac128}
-use Rattle.frac.specs.Range.{limit}
 use Rattle.frac.specs.Value.{fraction_of}
 use Rattle.form.specs.declared.limits.TheConstants.{MAX_PRICE, MAX_QUANTITY}
 use Rattle.form.specs.declared.states.State.{State}
 use Rattle.serde_json.specs.Data.{string}
 use Rattle.limits.specs.declared.TheConstants.{MAX_ACCOUNT, MAX_MARKET}
-use Rattle.guarded_lines.specs.Told.{need_text}
-use Rattle.guarded_lines.specs.declared.told.Need.{Need}
-use Rattle.guarded_lines.specs.declared.told.Need.TheVariants as need
 use Rattle.guarded_lines.specs.declared.told.ToldMargin.{ToldMargin}
 use Rattle.guarded_lines.specs.declared.told.ToldMargin.TheVariants as told
 use Rattle.quote_lines.specs.Quoted.{price_text}
@@ -27,70 +21,22 @@ use Rattle.reply_print.specs.Numbers.{fraction_text}
 use Rattle.reply_print.specs.OutcomePieces.{state_entries}
 use Rattle.reply_print.specs.PieceData.{piece_data, pieces_data}
 use Rattle.reply_print.specs.Within.{IsAccount, IsLine, IsMarket, IsSmall}
-use Rattle.reply_print.proofs.Digits.{all_of}
 use Rattle.reply_print.specs.ClearedShape.{is_state}
 use Rattle.reply_print.specs.Look.{is_word, items_all}
 use Rattle.reply_print.specs.NumberTexts.{is_whole_number}
 use Rattle.reply_text.proofs.FiveTests.{IsTaken, paired}
-use Rattle.reply_text.proofs.Taken.{fraction_number, fraction_taken, items_pass, natural_taken, whole_number, whole_taken}
+use Rattle.reply_text.proofs.Taken.{fraction_number, fraction_taken, items_pass, natural_taken, whole_number}
 use Rattle.reply_text.proofs.TakenBatches.{len_within}
 use Rattle.reply_text.proofs.TakenOutcomes.{all_text, length-entries, state_taken}
-use Rattle.reply_text.proofs.TakenReplies.{int_le-from, line_taken, then_taken}
+use Rattle.reply_text.proofs.TakenReplies.{line_taken, then_taken}
 use Rattle.reply_text.specs.BatchValues.{whole_from}
 use Rattle.reply_text.specs.ReplyValues.{not_below}
 use Rattle.journal_audit.specs.declared.asked_replies.AskedReply.{AskedReply}
-use Rattle.journal_audit.specs.declared.asked_replies.AskedReply.TheVariants.{Quoted, Priced, Margin, Uncovered}
-use Rattle.journal_audit.specs.AskedLines.{IsAskedLineWithin, IsMarginWithin, IsNeedWithin, IsPriceWithin, asked_piece}
-use Rattle.journal_audit.specs.AskedShapes.{is_bare, is_need, is_price}
+use Rattle.journal_audit.specs.declared.asked_replies.AskedReply.TheVariants.{Quoted, Priced, Margin}
+use Rattle.journal_audit.specs.AskedLines.{IsAskedLineWithin, IsMarginWithin, IsPriceWithin, asked_piece}
+use Rattle.journal_audit.specs.AskedShapes.{is_bare, is_price}
 use Rattle.journal_audit.specs.AskedValues.{asked_tests, told_by}
-
--- ---- texts of numbers are no words
-
-abbrev is_low : ℕ → Bool
-is_low b = nat_le b 57
-
-abbrev are_low : List ℕ → Bool
-are_low s = list_all is_low s
-
-low-decimal : (n : ℕ) → n < 10 ^ 64 → are_low (decimal n) ≡ true
-low-decimal n small = all_of is_low (λ k lt. le-leb (48 + k) 57 (omega arith)) n small
-
-low-signed : (z : ℤ) → IsSmall z → are_low (signed_decimal z) ≡ true
-low-signed (pos n) h = low-decimal n (omega arith)
-low-signed (negsuc n) h = low-decimal (suc n) (omega arith)
-
-no_byte : (c b : ℕ) → is_low c ≡ true → 58 ≤ b → nat_eq c b ≡ false
-no_byte c b low high = grind (arith, nat_tests)
-
--- a word begins with a letter
-pub no_word : (s : List ℕ) (b : ℕ) (bs : List ℕ) → 58 ≤ b → are_low s ≡ true → bytes_eq s (b ∷ bs) ≡ false
-no_word [] b bs high low = refl
-no_word (c ∷ s) b bs high low = rw (no_byte c b (and_parts (is_low c) (are_low s) low).0 high) refl
-
--- ---- tests, one of which holds
-
-third : (a b c : Bool) → c ≡ true → (a || (b || c)) ≡ true
-third true b c h = refl
-third false true c h = refl
-third false false c h = h
-
-fourth : (a b c d : Bool) → d ≡ true → (a || (b || (c || d))) ≡ true
-fourth true b c d h = refl
-fourth false b c d h = third b c d h
-
-sixth : (a b c d e f : Bool) → f ≡ true → (a || (b || (c || (d || (e || f))))) ≡ true
-sixth true b c d e f h = refl
-sixth false true c d e f h = refl
-sixth false false c d e f h = fourth c d e f h
-
--- the size of a number that is written is taken out
-held_taken : (bound n : ℕ) → n ≤ bound → n < 2 ^ 127 → option_map unsigned_abs (option_and_then not_below (whole_from bound (piece_data (whole_words (pos n))))) ≡ Some n
-held_taken bound n h small =
-    let kept : option_and_then not_below (Some (pos n)) ≡ Some (pos n) = rw (int_le-from (pos n) (omega (arith, ints))) refl in
-    ap (λ o. option_map unsigned_abs (option_and_then not_below o)) (whole_taken bound (pos n) (omega arith) h) ∙ ap (option_map unsigned_abs) kept
-
-is_number : (n : ℕ) → n < 2 ^ 127 → is_whole_number (string (decimal n)) ≡ true
-is_number n small = whole_number (pos n) (omega arith)
+use Rattle.proposal_text.proofs.TakenNeeds.{are_low, fourth, held_taken, is_number, low-decimal, low-signed, no_word, third}
 
 -- ---- prices
 
@@ -113,39 +59,6 @@ price_taken (price.At p) h =
 price_taken price.Never h = refl
 price_taken price.Unmarked h = refl
 
--- ---- needs
-
-pub need_is : (n : Need) → IsNeedWithin n → is_need (string (need_text n)) ≡ true
-need_is (need.Amount amount) h =
-    let is = λ (word : List ℕ). is_word word (string (decimal amount)) in
-    sixth (is (codes "positions")) (is (codes "unbounded")) (is (codes "wide")) (is (codes "budget")) (is (codes "sum")) _ (is_number amount h)
-need_is need.Positions h = refl
-need_is need.Unbounded h = refl
-need_is need.Wide h = refl
-need_is need.Budget h = refl
-need_is need.Sum h = refl
-
-abbrev need_of : List ℕ → Option Need
-need_of text =
-    if bytes_eq text (codes "positions") then Some need.Positions
-    else if bytes_eq text (codes "unbounded") then Some need.Unbounded
-    else if bytes_eq text (codes "wide") then Some need.Wide
-    else if bytes_eq text (codes "budget") then Some need.Budget
-    else if bytes_eq text (codes "sum") then Some need.Sum
-    else option_map need.Amount (option_map unsigned_abs (option_and_then not_below (whole_from limit (string text))))
-
-pub need_taken : (n : Need) → IsNeedWithin n → need_of (need_text n) ≡ Some n
-need_taken (need.Amount amount) h =
-    let low = low-decimal amount (omega (arith, h)) in
-    let no = λ (b : ℕ) (bs : List ℕ) (high : 58 ≤ b). no_word (decimal amount) b bs high low in
-    rw (no 112 _ (omega arith), no 117 _ (omega arith), no 119 _ (omega arith), no 98 _ (omega arith), no 115 _ (omega arith))
-    (ap (option_map need.Amount) (held_taken limit amount (omega (arith, h)) h))
-need_taken need.Positions h = refl
-need_taken need.Unbounded h = refl
-need_taken need.Wide h = refl
-need_taken need.Budget h = refl
-need_taken need.Sum h = refl
-
 -- ---- margins
 
 low-fraction : (x : Frac128) → are_low (fraction_text (fraction_of x)) ≡ true
@@ -154,7 +67,7 @@ low-fraction x = by (x.denominator == 1)
     by : (b : Bool) → are_low (if b then signed_decimal x.numerator else signed_decimal x.numerator ++ 47 ∷ decimal x.denominator) ≡ true
     by true = low-signed x.numerator x.above_fits
     by false =
-        list_all-append is_low (signed_decimal x.numerator) (47 ∷ decimal x.denominator)
+        list_all-append (λ b. nat_le b 57) (signed_decimal x.numerator) (47 ∷ decimal x.denominator)
         ∙ and_from (are_low (signed_decimal x.numerator)) _ (low-signed x.numerator x.above_fits) (low-decimal x.denominator (omega (arith, x.below_fits)))
 
 second : (a b : Bool) → b ≡ true → (a || b) ≡ true
@@ -250,15 +163,7 @@ module _ (line account market : ℕ) (l : IsLine line) (a : IsAccount account) (
   margin_taken told.Wide h = bare_taken.0
   margin_taken told.Budget h = bare_taken.1
 
-uncovered_taken : (line : ℕ) (n : Need) → IsAskedLineWithin line (Uncovered n) → IsTakenFrom line (Uncovered n)
-uncovered_taken line n h = record {
-  shape = refl;
-  numbers = need_is n h.1;
-  taken = paired _ _ line _ (line_taken line h.0) (ap (option_map Uncovered) (need_taken n h.1));
-}
-
 pub asked_taken : (line : ℕ) (reply : AskedReply) → IsAskedLineWithin line reply → IsTakenFrom line reply
 asked_taken line (Quoted market bid ask) h = quoted_taken line market bid ask h
 asked_taken line (Priced market quantity ask bid) h = priced_taken line market quantity ask bid h
 asked_taken line (Margin account market margin) h = margin_taken line account market h.0 h.1.0 h.1.1 margin h.1.2
-asked_taken line (Uncovered n) h = uncovered_taken line n h

@@ -16,7 +16,7 @@ use Rattle.reply_text.specs.Tests.{Tests, json_by, json_of, read_by, value_by}
 use Rattle.reply_text.proofs.FiveTests.{never_memory, never_memory_in}
 use Rattle.proposal_text.specs.declared.replies.BoundedOutcome.{BoundedOutcome}
 use Rattle.proposal_text.specs.declared.replies.ProposalReply.{ProposalReply}
-use Rattle.proposal_text.specs.declared.replies.ProposalReply.TheVariants.{Book, Positions, Proposed, Bounded as BoundedReply, Stale, Unproved, Closed, Reopened, MarketIsClosed, MarketIsOpen}
+use Rattle.proposal_text.specs.declared.replies.ProposalReply.TheVariants.{Book, Positions, Proposed, Bounded as BoundedReply, Stale, Unproved, Closed, Reopened, MarketIsClosed, MarketIsOpen, Account, Tried, Barred}
 use Rattle.proposal_text.specs.ReplyValues.{IsProposalLineOf, proposal_tests}
 use Rattle.proposal_text.proofs.ReadExactly.{line_of}
 use Rattle.journal_audit.specs.declared.asked_replies.AskedReply.{AskedReply}
@@ -115,6 +115,9 @@ proposal_says text line (Closed market orders) h = told_plain text line (Closed 
 proposal_says text line (Reopened market) h = told_plain text line (Reopened market) h tt refl
 proposal_says text line MarketIsClosed h = told_plain text line MarketIsClosed h tt refl
 proposal_says text line MarketIsOpen h = told_plain text line MarketIsOpen h tt refl
+proposal_says text line (Account told) h = told_plain text line (Account told) h tt refl
+proposal_says text line (Tried market trial) h = told_plain text line (Tried market trial) h tt refl
+proposal_says text line (Barred bar) h = told_plain text line (Barred bar) h tt refl
 
 module _ (text : List ℕ) (d : Data) (json : json_of text ≡ Some d) where
   proposal_read : (r : Result (ℕ × ProposalReply) LineFault) → value_by proposal_tests text d ≡ r → IsSoundAs text (proposal_found r)
@@ -133,7 +136,7 @@ module _ (text : List ℕ) (d : Data) (json : json_of text ≡ Some d) where
   by_tests false false f some = fault_served text f some
 
   pub value_sound : (f : LineFault) (word : List ℕ) → (f ≡ Memory → ⊥) → IsSoundAs text (value_finding text f word d)
-  value_sound f word some = by_tests (tells_proposal word d) (tells_asked word d) f some
+  value_sound f word some = by_tests (tells_proposal word d) (tells_asked word) f some
 
 beside_sound : (text : List ℕ) (f : LineFault) (value : Option Data) → json_of text ≡ value → (f ≡ Memory → ⊥) → IsSoundAs text (beside text f value)
 beside_sound text f None json some = fault_served text f some

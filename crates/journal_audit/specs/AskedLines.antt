@@ -1,14 +1,12 @@
 -- What is told of quotes, prices and margins is written as this, and is within these ranges.
-use Rattle.std.specs.Prelude.{ℕ, ◌≤◌, ◌^◌, ◌<◌, ⊤, List}
+use Rattle.std.specs.Prelude.{ℕ, ◌≤◌, ⊤, List}
 use Rattle.std.specs.List.{AllByRecursion}
 use Rattle.form.specs.declared.limits.TheConstants.{MAX_PRICE, MAX_QUANTITY}
 use Rattle.form.specs.Between.{Between}
 use Rattle.command_text.specs.declared.requests.MarginRequest.{MarginRequest}
-use Rattle.guarded_lines.specs.declared.told.Need.{Need}
-use Rattle.guarded_lines.specs.declared.told.Need.TheVariants as need
 use Rattle.guarded_lines.specs.declared.told.ToldMargin.{ToldMargin}
 use Rattle.guarded_lines.specs.declared.told.ToldMargin.TheVariants as told
-use Rattle.guarded_lines.specs.Told.{margin_piece, uncovered_piece}
+use Rattle.guarded_lines.specs.Told.{margin_piece}
 use Rattle.quote_lines.specs.declared.prices.QuotedPrice.{QuotedPrice}
 use Rattle.quote_lines.specs.declared.prices.QuotedPrice.TheVariants as price
 use Rattle.quote_lines.specs.Quoted.{priced_piece, quoted_piece}
@@ -16,7 +14,7 @@ use Rattle.reply_print.specs.OutcomePieces.{state_entries}
 use Rattle.reply_print.specs.Piece.{Piece, piece_text}
 use Rattle.reply_print.specs.Within.{IsLine, IsAccount, IsMarket, IsSmall}
 use Rattle.journal_audit.specs.declared.asked_replies.AskedReply.{AskedReply}
-use Rattle.journal_audit.specs.declared.asked_replies.AskedReply.TheVariants.{Quoted, Priced, Margin, Uncovered}
+use Rattle.journal_audit.specs.declared.asked_replies.AskedReply.TheVariants.{Quoted, Priced, Margin}
 
 -- the line of a margin does not tell the budget of its request
 abbrev pub request_for : ℕ → ℕ → MarginRequest
@@ -26,7 +24,6 @@ abbrev pub asked_piece : ℕ → AskedReply → Piece
 asked_piece line (Quoted market bid ask) = quoted_piece line market bid ask
 asked_piece line (Priced market quantity ask bid) = priced_piece line market quantity ask bid
 asked_piece line (Margin account market margin) = margin_piece line (request_for account market) margin
-asked_piece line (Uncovered n) = uncovered_piece line n
 
 -- the line of a reply, without its line feed
 abbrev pub asked_line : ℕ → AskedReply → List ℕ
@@ -47,20 +44,10 @@ IsMarginWithin (told.Unbounded ray) = AllByRecursion IsSmall (state_entries ray)
 IsMarginWithin told.Wide = ⊤
 IsMarginWithin told.Budget = ⊤
 
--- at most 2^127 - 1
-abbrev pub IsNeedWithin : Need → Type 0
-IsNeedWithin (need.Amount amount) = amount < 2 ^ 127
-IsNeedWithin need.Positions = ⊤
-IsNeedWithin need.Unbounded = ⊤
-IsNeedWithin need.Wide = ⊤
-IsNeedWithin need.Budget = ⊤
-IsNeedWithin need.Sum = ⊤
-
 abbrev pub IsAskedWithin : AskedReply → Type 0
 IsAskedWithin (Quoted market bid ask) = IsMarket market × IsPriceWithin bid × IsPriceWithin ask
 IsAskedWithin (Priced market quantity ask bid) = IsMarket market × Between 1 MAX_QUANTITY quantity × IsPriceWithin ask × IsPriceWithin bid
 IsAskedWithin (Margin account market margin) = IsAccount account × IsMarket market × IsMarginWithin margin
-IsAskedWithin (Uncovered n) = IsNeedWithin n
 
 -- a line and its reply
 abbrev pub IsAskedLineWithin : ℕ → AskedReply → Type 0

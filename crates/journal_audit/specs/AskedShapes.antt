@@ -1,10 +1,10 @@
 -- The shapes of lines that tell quotes, prices and margins, and whether their texts are numbers or
 -- words.
-use Rattle.std.specs.Prelude.{List, ℕ, Bool, ◌&&◌, ◌||◌, ◌==◌, codes, if◌then◌else◌}
+use Rattle.std.specs.Prelude.{List, ℕ, Bool, ◌&&◌, ◌||◌, codes, if◌then◌else◌}
 use Rattle.std.specs.Str.{bytes_eq}
 use Rattle.serde_json.specs.Data.{Data}
 use Rattle.reply_print.specs.ClearedShape.{is_state}
-use Rattle.reply_print.specs.Look.{has_members, has_at, is_whole, is_text, is_word, is_list, word_at, number_at}
+use Rattle.reply_print.specs.Look.{has_members, has_at, is_whole, is_text, is_word, is_list, word_at}
 use Rattle.reply_print.specs.NumberTexts.{is_whole_number, is_fraction}
 
 -- ---- shapes
@@ -32,18 +32,11 @@ margin_shape d =
     && (has_its_state (word_at (codes "margin") d) d
     && (has_at (codes "account") is_whole d && (has_at (codes "line") is_whole d && has_at (codes "market") is_whole d)))
 
--- a refusal for want of margin
-abbrev pub uncovered_shape : Data → Bool
-uncovered_shape d =
-    number_at (codes "number") d == 14
-    && (has_members 5 d && (has_at (codes "line") is_whole d && (has_at (codes "need") is_text d && has_at (codes "reason") (is_word (codes "Margin")) d)))
-
 abbrev pub shape_by : List ℕ → Data → Bool
 shape_by word d =
     if bytes_eq word (codes "quoted") then prices_shape 5 d
     else if bytes_eq word (codes "priced") then priced_shape d
-    else if bytes_eq word (codes "margin") then margin_shape d
-    else bytes_eq word (codes "refused") && uncovered_shape d
+    else bytes_eq word (codes "margin") && margin_shape d
 
 -- ---- numbers or words
 
@@ -61,14 +54,8 @@ abbrev pub margin_numbers : Data → Bool
 margin_numbers d =
     has_at (codes "margin") is_margin d && (is_bare (word_at (codes "margin") d) || has_at (codes "at") (is_list is_whole_number) d)
 
-abbrev pub is_need : Data → Bool
-is_need d =
-    is_word (codes "positions") d
-    || (is_word (codes "unbounded") d || (is_word (codes "wide") d || (is_word (codes "budget") d || (is_word (codes "sum") d || is_whole_number d))))
-
 abbrev pub numbers_by : List ℕ → Data → Bool
 numbers_by word d =
     if bytes_eq word (codes "quoted") then prices_numbers d
     else if bytes_eq word (codes "priced") then prices_numbers d
-    else if bytes_eq word (codes "margin") then margin_numbers d
-    else has_at (codes "need") is_need d
+    else margin_numbers d

@@ -1,31 +1,25 @@
 -- What is told of quotes, prices and margins as it is taken out of a line, where it is within its
 -- ranges, and its reading.
-use Rattle.std.specs.Prelude.{ℕ, ◌≡◌, unsigned_abs, List, Option, Some, Result, option_map, option_and_then, codes, if◌then◌else◌}
+use Rattle.std.specs.Prelude.{ℕ, ◌≡◌, List, Option, Some, Result, option_map, option_and_then, codes, if◌then◌else◌}
 use Rattle.std.specs.Str.{bytes_eq}
 use Rattle.form.specs.declared.limits.TheConstants.{MAX_PRICE, MAX_QUANTITY}
-use Rattle.frac.specs.Range.{limit}
 use Rattle.serde_json.specs.Data.{Data}
-use Rattle.guarded_lines.specs.declared.told.Need.{Need}
-use Rattle.guarded_lines.specs.declared.told.Need.TheVariants as need
 use Rattle.guarded_lines.specs.declared.told.ToldMargin.{ToldMargin}
 use Rattle.guarded_lines.specs.declared.told.ToldMargin.TheVariants as told
 use Rattle.quote_lines.specs.declared.prices.QuotedPrice.{QuotedPrice}
 use Rattle.quote_lines.specs.declared.prices.QuotedPrice.TheVariants as price
 use Rattle.reply_print.specs.Look.{word_at}
 use Rattle.reply_text.specs.declared.faults.LineFault.{LineFault}
-use Rattle.reply_text.specs.BatchValues.{fraction_from, whole_from}
+use Rattle.reply_text.specs.BatchValues.{fraction_from}
 use Rattle.reply_text.specs.OutcomeValues.{state_at}
-use Rattle.reply_text.specs.ReplyValues.{account_at, market_at, not_below}
+use Rattle.reply_text.specs.ReplyValues.{account_at, market_at}
 use Rattle.reply_text.specs.Taking.{natural_at, take_at}
 use Rattle.reply_text.specs.Tests.{ReplyTests, Tests, read_by, tests_of}
+use Rattle.proposal_text.specs.Needs.{size_at}
 use Rattle.journal_audit.specs.declared.asked_replies.AskedReply.{AskedReply}
-use Rattle.journal_audit.specs.declared.asked_replies.AskedReply.TheVariants.{Quoted, Priced, Margin, Uncovered}
+use Rattle.journal_audit.specs.declared.asked_replies.AskedReply.TheVariants.{Quoted, Priced, Margin}
 use Rattle.journal_audit.specs.AskedLines.{asked_line, IsAskedLineWithin}
 use Rattle.journal_audit.specs.AskedShapes.{numbers_by, shape_by}
-
--- the size of the whole number at a key, where it is not below 0 and at most a bound
-abbrev pub size_at : ℕ → List ℕ → Data → Option ℕ
-size_at bound key d = option_map unsigned_abs (take_at key (λ e. option_and_then not_below (whole_from bound e)) d)
 
 -- ---- prices
 
@@ -68,28 +62,13 @@ margin_from d =
     option_and_then (λ account. option_and_then (λ market. option_map (Margin account market) (told_by (word_at (codes "margin") d) d)) (market_at d))
     (account_at d)
 
--- ---- needs
-
-abbrev pub need_by : List ℕ → Data → Option Need
-need_by word d =
-    if bytes_eq word (codes "positions") then Some need.Positions
-    else if bytes_eq word (codes "unbounded") then Some need.Unbounded
-    else if bytes_eq word (codes "wide") then Some need.Wide
-    else if bytes_eq word (codes "budget") then Some need.Budget
-    else if bytes_eq word (codes "sum") then Some need.Sum
-    else option_map need.Amount (size_at limit (codes "need") d)
-
-abbrev pub uncovered_from : Data → Option AskedReply
-uncovered_from d = option_map Uncovered (need_by (word_at (codes "need") d) d)
-
 -- ---- the whole line
 
 abbrev pub asked_by : List ℕ → Data → Option AskedReply
 asked_by word d =
     if bytes_eq word (codes "quoted") then quoted_from d
     else if bytes_eq word (codes "priced") then priced_from d
-    else if bytes_eq word (codes "margin") then margin_from d
-    else uncovered_from d
+    else margin_from d
 
 abbrev pub asked_replies : ReplyTests AskedReply
 asked_replies = record { shape_by = shape_by; numbers_by = numbers_by; reply_by = asked_by; line = asked_line }

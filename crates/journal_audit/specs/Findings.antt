@@ -1,5 +1,5 @@
 -- What is found of a line of `serve` or of `serve sessions`.
-use Rattle.std.specs.Prelude.{ℕ, List, Bool, ◌&&◌, ◌||◌, ◌==◌, Option, Some, None, Result, Ok, Err, codes, if◌then◌else◌}
+use Rattle.std.specs.Prelude.{ℕ, List, Bool, ◌&&◌, ◌||◌, ◌==◌, nat_le, Option, Some, None, Result, Ok, Err, codes, if◌then◌else◌}
 use Rattle.std.specs.Str.{bytes_eq}
 use Rattle.frac.specs.Range.{limit}
 use Rattle.frac.specs.Value.{fraction_of}
@@ -38,29 +38,34 @@ abbrev pub plain_found : {A : Type 0} → Result A LineFault → Finding
 plain_found (Ok a) = Plain
 plain_found (Err f) = fault_finding f
 
--- whether a refusal is one of a proposal, or of a closed market
+-- whether a refusal is one that a run has not
 abbrev pub is_served_refusal : ℕ → Bool
-is_served_refusal number = (number == 20 || number == 21) || (number == 23 || number == 24)
+is_served_refusal number = (number == 14 || (number == 20 || number == 21)) || (nat_le 23 number && nat_le number 27)
 
--- whether the value is that of a line about proposals or phases
+-- whether a word is that of a reply about phases, needs or trials
+abbrev pub is_served_word : List ℕ → Bool
+is_served_word word =
+    (bytes_eq word (codes "closed") || bytes_eq word (codes "reopened"))
+    || (bytes_eq word (codes "secured") || (bytes_eq word (codes "need") || bytes_eq word (codes "tried")))
+
+-- whether the value is that of a line about proposals, phases, needs or trials, or of a refusal
+-- that a run has not
 abbrev pub tells_proposal : List ℕ → Data → Bool
 tells_proposal word d =
     (bytes_eq word (codes "book") || (bytes_eq word (codes "positions") || bytes_eq word (codes "proposed")))
     || ((bytes_eq word (codes "cleared") && number_at (codes "version") d == 3)
-    || ((bytes_eq word (codes "closed") || bytes_eq word (codes "reopened"))
+    || (is_served_word word
     || (bytes_eq word (codes "refused") && is_served_refusal (number_at (codes "number") d))))
 
 -- or of one that tells quotes, prices or margins
-abbrev pub tells_asked : List ℕ → Data → Bool
-tells_asked word d =
-    (bytes_eq word (codes "quoted") || (bytes_eq word (codes "priced") || bytes_eq word (codes "margin")))
-    || (bytes_eq word (codes "refused") && number_at (codes "number") d == 14)
+abbrev pub tells_asked : List ℕ → Bool
+tells_asked word = bytes_eq word (codes "quoted") || (bytes_eq word (codes "priced") || bytes_eq word (codes "margin"))
 
 -- a line that is not one of a run, which fails its tests by the fault
 abbrev pub value_finding : List ℕ → LineFault → List ℕ → Data → Finding
 value_finding text f word d =
     if tells_proposal word d then proposal_found (value_by proposal_tests text d)
-    else if tells_asked word d then plain_found (value_by asked_tests text d)
+    else if tells_asked word then plain_found (value_by asked_tests text d)
     else fault_finding f
 
 abbrev pub beside : List ℕ → LineFault → Option Data → Finding

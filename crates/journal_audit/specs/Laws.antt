@@ -45,7 +45,7 @@ pub record IsProposedLineOf (text : List ℕ) (reply : ProposalReply) : Type 0 w
   pub is_line : IsProposalLineOf text line reply
   pub proved : IfBounded reply
 
--- the line tells a quote, prices, a margin or a need
+-- the line tells a quote, prices or a margin
 abbrev pub IsToldLineOf : List ℕ → AskedReply → Type 0
 IsToldLineOf text reply = (line : ℕ) × IsAskedLineOf text line reply
 

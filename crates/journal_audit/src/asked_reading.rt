@@ -7,14 +7,12 @@ ghost use Rattle.journal_audit.specs.AskedValues.{asked_replies, asked_tests};
 
 use crate::asked_replies::AskedReply;
 use crate::asked_shapes::{
-    is_need, margin_numbers, margin_shape, priced_shape, prices_numbers, prices_shape,
-    uncovered_shape,
+    margin_numbers, margin_shape, priced_shape, prices_numbers, prices_shape,
 };
-use crate::asked_values::{margin_from, priced_from, quoted_from, uncovered_from};
+use crate::asked_values::{margin_from, priced_from, quoted_from};
 use command_text::MarginRequest;
-use guarded_lines::{print_margin, print_uncovered};
+use guarded_lines::print_margin;
 use quote_lines::{print_priced, print_quoted};
-use reply_print::look::has_at;
 use reply_text::tested::read_value;
 use reply_text::{LineFault, TestedReply};
 use serde_json::Value;
@@ -28,7 +26,6 @@ impl TestedReply for AskedReply {
             "quoted" => prices_shape(value, 5),
             "priced" => priced_shape(value),
             "margin" => margin_shape(value),
-            "refused" => uncovered_shape(value),
             _ => false,
         }
     }
@@ -36,8 +33,7 @@ impl TestedReply for AskedReply {
     fn has_numbers(value: &Value, word: &str) -> bool {
         match word {
             "quoted" | "priced" => prices_numbers(value),
-            "margin" => margin_numbers(value),
-            _ => has_at(value, "need", is_need),
+            _ => margin_numbers(value),
         }
     }
 
@@ -45,8 +41,7 @@ impl TestedReply for AskedReply {
         match word {
             "quoted" => Ok(quoted_from(value)),
             "priced" => Ok(priced_from(value)),
-            "margin" => margin_from(alloc, value),
-            _ => Ok(uncovered_from(value)),
+            _ => margin_from(alloc, value),
         }
     }
 
@@ -73,13 +68,12 @@ impl TestedReply for AskedReply {
                 };
                 print_margin(alloc, line, &request, margin)
             }
-            AskedReply::Uncovered { need } => print_uncovered(alloc, line, *need),
         }
     }
 }
 
-/// Reads a line that tells a quote, prices, a margin or a need, by the value of its text: its
-/// number and what it tells. Ok exactly where the text is the print of the pair that is answered,
+/// Reads a line that tells a quote, prices or a margin, by the value of its text: its number and
+/// what it tells. Ok exactly where the text is the print of the pair that is answered,
 /// and that pair is within its ranges; else the first test that the text fails, in the order of the
 /// faults. `Memory` where memory is wanting.
 pub fn read_asked_value(

@@ -1,10 +1,9 @@
 //! What is told of quotes, prices and margins.
 
-use guarded_lines::{Need, ToldMargin};
+use guarded_lines::ToldMargin;
 use quote_lines::QuotedPrice;
 
-/// What a line is answered that asks for something, or a withdrawal that is refused for what it
-/// would leave.
+/// What a line is answered that asks for something.
 #[derive(Clone, Copy, Debug, PartialEq, Eq)]
 pub enum AskedReply {
     /// The prices at which one further buy, and one further sell, of an option would raise the
@@ -26,9 +25,5 @@ pub enum AskedReply {
         account: u32,
         market: u32,
         margin: ToldMargin,
-    },
-    /// The withdrawal would leave the account less than its positions need.
-    Uncovered {
-        need: Need,
     },
 }

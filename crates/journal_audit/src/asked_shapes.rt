@@ -1,12 +1,12 @@
 // The shapes of lines, and whether their texts are numbers or words.
 ghost use Rattle.std.specs.Prelude.{◌≡◌};
 ghost use Rattle.serde_json.specs.View.{view};
-ghost use Rattle.journal_audit.specs.AskedShapes.{has_its_state as state_is, is_bare as bare_is, is_margin as margin_is, is_need as need_is, is_price as price_is, margin_numbers as margin_numbered, margin_shape as margin_shaped, priced_shape as priced_shaped, prices_numbers as prices_numbered, prices_shape as prices_shaped, uncovered_shape as uncovered_shaped};
+ghost use Rattle.journal_audit.specs.AskedShapes.{has_its_state as state_is, is_bare as bare_is, is_margin as margin_is, is_price as price_is, margin_numbers as margin_numbered, margin_shape as margin_shaped, priced_shape as priced_shaped, prices_numbers as prices_numbered, prices_shape as prices_shaped};
 
 use reply_print::cleared_numbers::{are_entries, is_fraction_text};
 use reply_print::cleared_shape::is_state;
 use reply_print::look::{
-    has_at, has_members, has_text, has_whole, has_word, is_whole_text, is_word, number_at, word_at,
+    has_at, has_members, has_text, has_whole, is_whole_text, is_word, word_at,
 };
 use serde_json::Value;
 
@@ -54,16 +54,6 @@ pub(crate) fn margin_shape(value: &Value) -> bool
         && has_whole(value, "market")
 }
 
-pub(crate) fn uncovered_shape(value: &Value) -> bool
-    ensures { result ≡ uncovered_shaped (view value.now) }
-{
-    number_at(value, "number") == 14
-        && has_members(value, 5)
-        && has_whole(value, "line")
-        && has_text(value, "need")
-        && has_word(value, "reason", "Margin")
-}
-
 fn is_price(value: &Value) -> bool
     ensures { result ≡ price_is (view value.now) }
 {
@@ -90,15 +80,4 @@ pub(crate) fn margin_numbers(value: &Value) -> bool
 {
     has_at(value, "margin", is_margin)
         && (is_bare(word_at(value, "margin")) || has_at(value, "at", are_entries))
-}
-
-pub(crate) fn is_need(value: &Value) -> bool
-    ensures { result ≡ need_is (view value.now) }
-{
-    is_word(value, "positions")
-        || is_word(value, "unbounded")
-        || is_word(value, "wide")
-        || is_word(value, "budget")
-        || is_word(value, "sum")
-        || is_whole_text(value)
 }

@@ -1,34 +1,20 @@
 // What is taken out of a line, where it is within its ranges.
-ghost use Rattle.std.specs.Prelude.{◌≡◌, ◌≤◌, IfOk, IfSome, codes, option_map};
-ghost use Rattle.frac.specs.Range.{limit};
+ghost use Rattle.std.specs.Prelude.{◌≡◌, IfOk, codes, option_map};
 ghost use Rattle.serde_json.specs.View.{view};
 ghost use Rattle.guarded_lines.specs.declared.told.ToldMargin.TheVariants as told;
 ghost use Rattle.reply_text.specs.OutcomeValues.{state_at as state_found};
-ghost use Rattle.journal_audit.specs.AskedValues.{least_from as least_found, margin_from as margin_found, need_by as need_found, price_at as price_found, price_by as price_named, priced_from as priced_found, quoted_from as quoted_found, size_at as size_found, told_by as told_found, uncovered_from as uncovered_found};
+ghost use Rattle.journal_audit.specs.AskedValues.{least_from as least_found, margin_from as margin_found, price_at as price_found, price_by as price_named, priced_from as priced_found, quoted_from as quoted_found, told_by as told_found};
 
 use crate::asked_replies::AskedReply;
 use form::{MAX_PRICE, MAX_QUANTITY};
-use guarded_lines::{Need, ToldMargin};
+use guarded_lines::ToldMargin;
+use proposal_text::needs::size_at;
 use quote_lines::QuotedPrice;
-use reply_print::fraction_texts::LIMIT;
 use reply_print::look::word_at;
 use reply_text::certificate_values::{fraction_at, state_at};
-use reply_text::taking::{account_at, market_at, natural_at, whole_at};
+use reply_text::taking::{account_at, market_at, natural_at};
 use serde_json::Value;
 use std::alloc::{AllocError, Global};
-
-// The size of the whole number at a key, where it is not below 0 and at most a bound.
-fn size_at(value: &Value, key: &str, bound: u128) -> Option<u128>
-    requires { bound ≤ limit }
-    ensures size { result ≡ size_found bound key.now (view value.now) }
-    ensures within { IfSome result (λ size. size ≤ bound) }
-{
-    let number = whole_at(value, key, bound)?;
-    if number < 0 {
-        return None;
-    }
-    Some(number.unsigned_abs())
-}
 
 fn price_by(value: &Value, key: &str, word: &str) -> Option<QuotedPrice>
     ensures { result ≡ price_named word.now key.now (view value.now) }
@@ -128,30 +114,4 @@ pub(crate) fn margin_from(alloc: Global, value: &Value) -> Result<Option<AskedRe
         market,
         margin,
     }))
-}
-
-fn need_by(value: &Value, word: &str) -> Option<Need>
-    ensures { result ≡ need_found word.now (view value.now) }
-{
-    if word == "positions" {
-        Some(Need::Positions)
-    } else if word == "unbounded" {
-        Some(Need::Unbounded)
-    } else if word == "wide" {
-        Some(Need::Wide)
-    } else if word == "budget" {
-        Some(Need::Budget)
-    } else if word == "sum" {
-        Some(Need::Sum)
-    } else {
-        let amount = size_at(value, "need", LIMIT)?;
-        Some(Need::Amount { amount })
-    }
-}
-
-pub(crate) fn uncovered_from(value: &Value) -> Option<AskedReply>
-    ensures { result ≡ uncovered_found (view value.now) }
-{
-    let need = need_by(value, word_at(value, "need"))?;
-    Some(AskedReply::Uncovered { need })
 }

@@ -8,7 +8,7 @@ ghost use Rattle.proposal_text.specs.ReplyValues.{proposal_tests};
 ghost use Rattle.proposal_text.specs.Within.{IsProposalReplyWithin};
 ghost use Rattle.journal_audit.specs.Accepted.{message_from as message_found};
 ghost use Rattle.journal_audit.specs.GateLines.{gate_tests};
-ghost use Rattle.journal_audit.specs.Findings.{accepted_finding as accepted_is, plain_found as plain_read, proposal_found as proposal_read, audit_finding as audit_is, beside as beside_is, is_served_refusal as served_refusal_is, proposal_finding as proposal_is, reply_found as reply_is, served_finding as served_is, session_beside as session_beside_is, session_value_finding as session_value_is, tells_asked as asked_is_told, tells_proposal as proposal_is_told, unspelled as unspelled_is, value_finding as value_is};
+ghost use Rattle.journal_audit.specs.Findings.{accepted_finding as accepted_is, plain_found as plain_read, proposal_found as proposal_read, audit_finding as audit_is, beside as beside_is, is_served_refusal as served_refusal_is, is_served_word as served_word_is, proposal_finding as proposal_is, reply_found as reply_is, served_finding as served_is, session_beside as session_beside_is, session_value_finding as session_value_is, tells_asked as asked_is_told, tells_proposal as proposal_is_told, unspelled as unspelled_is, value_finding as value_is};
 
 use crate::accepted::{is_accepted, message_from, reply_in};
 use crate::asked_reading::read_asked_value;
@@ -35,11 +35,19 @@ fn proposal_finding(alloc: Global, reply: &ProposalReply) -> Result<Finding, All
     }
 }
 
-// Whether a refusal is one of a proposal, or of a closed market.
+// Whether a refusal is one that a run has not.
 fn is_served_refusal(number: u64) -> bool
     ensures { result ≡ served_refusal_is number }
 {
-    (number == 20 || number == 21) || (number == 23 || number == 24)
+    (number == 14 || number == 20 || number == 21) || (23 <= number && number <= 27)
+}
+
+// Whether a word is that of a reply about phases, needs or trials.
+fn is_served_word(word: &str) -> bool
+    ensures { result ≡ served_word_is word.now }
+{
+    (word == "closed" || word == "reopened")
+        || (word == "secured" || word == "need" || word == "tried")
 }
 
 fn tells_proposal(value: &Value, word: &str) -> bool
@@ -47,18 +55,17 @@ fn tells_proposal(value: &Value, word: &str) -> bool
 {
     (word == "book" || word == "positions" || word == "proposed")
         || (word == "cleared" && number_at(value, "version") == 3)
-        || (word == "closed" || word == "reopened")
+        || is_served_word(word)
         || (word == "refused" && is_served_refusal(number_at(value, "number")))
 }
 
-fn tells_asked(value: &Value, word: &str) -> bool
-    ensures { result ≡ asked_is_told word.now (view value.now) }
+fn tells_asked(word: &str) -> bool
+    ensures { result ≡ asked_is_told word.now }
 {
-    (word == "quoted" || word == "priced" || word == "margin")
-        || (word == "refused" && number_at(value, "number") == 14)
+    word == "quoted" || word == "priced" || word == "margin"
 }
 
-// A line about proposals.
+// A line about proposals, phases, needs or trials.
 fn proposal_found(alloc: Global, text: &[u8], value: &Value) -> Result<Finding, AllocError>
     requires { json_of text.now ≡ Some (view value.now) }
     ensures { IfOk result (λ f. f ≡ proposal_read (value_by proposal_tests text.now (view value.now))) }
@@ -69,7 +76,7 @@ fn proposal_found(alloc: Global, text: &[u8], value: &Value) -> Result<Finding, 
     }
 }
 
-// A line that tells a quote, prices, a margin or a need.
+// A line that tells a quote, prices or a margin.
 fn asked_found(alloc: Global, text: &[u8], value: &Value) -> Result<Finding, AllocError>
     ensures { IfOk result (λ f. f ≡ plain_read (value_by asked_tests text.now (view value.now))) }
 {
@@ -103,7 +110,7 @@ fn value_finding(
     let word = word_at(value, "reply");
     if tells_proposal(value, word) {
         proposal_found(alloc, text, value)
-    } else if tells_asked(value, word) {
+    } else if tells_asked(word) {
         asked_found(alloc, text, value)
     } else {
         fault_finding(fault)

@@ -79,7 +79,7 @@ told_texts [] = []
 told_texts (answer ∷ more) = told_text answer ++ told_texts more
 
 -- ---- texts beside these
--- a reply that tells what is read, that a proposal is not taken, or what a market's phase is
+-- a reply that neither takes a proposal nor clears as proposals had it
 abbrev pub TakesNothing : ProposalReply → Type 0
 TakesNothing (told.Book market batch) = ⊤
 TakesNothing (told.Positions account market positions) = ⊤
@@ -91,6 +91,9 @@ TakesNothing (told.Closed market orders) = ⊤
 TakesNothing (told.Reopened market) = ⊤
 TakesNothing told.MarketIsClosed = ⊤
 TakesNothing told.MarketIsOpen = ⊤
+TakesNothing (told.Account of_account) = ⊤
+TakesNothing (told.Tried market trial) = ⊤
+TakesNothing (told.Barred bar) = ⊤
 
 -- a text is the line of such a reply, with its line feed
 abbrev pub IsToldText : ℕ → List ℕ → Type 0

@@ -13,6 +13,7 @@ use Rattle.form.specs.declared.orders.Batch.{Batch}
 use Rattle.frac.specs.Value.{fraction_of}
 use Rattle.order_book.specs.Numbers.{numbers_of}
 use Rattle.proposal_text.specs.declared.replies.BoundedOutcome.{BoundedOutcome}
+use Rattle.proposal_text.specs.declared.replies.AccountReply.TheVariants as account
 use Rattle.proposal_text.specs.declared.replies.ProposalReply.TheVariants as told
 use Rattle.proposals.specs.Best.{surplus_of}
 use Rattle.proposals.specs.declared.best.Best.{Best}
@@ -86,6 +87,11 @@ IsRefused (Told (told.Closed market orders)) = ⊥
 IsRefused (Told (told.Reopened market)) = ⊥
 IsRefused (Told told.MarketIsClosed) = ⊤
 IsRefused (Told told.MarketIsOpen) = ⊤
+IsRefused (Told (told.Account (account.Secured holder amount))) = ⊥
+IsRefused (Told (told.Account (account.Needs needed))) = ⊥
+IsRefused (Told (told.Account (account.Uncovered need))) = ⊤
+IsRefused (Told (told.Tried market trial)) = ⊥
+IsRefused (Told (told.Barred bar)) = ⊤
 
 -- by such a proposal nothing changes
 abbrev pub RefusedChangeNothing : Type 0

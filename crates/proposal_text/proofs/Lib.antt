@@ -5,3 +5,5 @@ mod TakenProposals
 pub mod ReadExactly
 mod RisingNumbers
 mod Signs
+pub mod TakenNeeds
+pub mod SoundNeeds

@@ -1,11 +1,12 @@
 -- The texts in the pieces of proposals and of the replies about them are plain.
-use Rattle.std.proofs.Common.{◌≡◌, ℕ, List, false, true, refl, codes}
+use Rattle.std.proofs.Common.{◌≡◌, ℕ, List, Option, Some, None, false, true, refl, codes}
 use Rattle.form.specs.declared.orders.Batch.{Batch}
 use Rattle.form.specs.declared.orders.Order.{Order}
 use Rattle.form.specs.Bundles.{legs_in}
 use Rattle.settlement.specs.declared.position.Position.{Position}
 use Rattle.reply_print.specs.BatchPieces.{natural, fraction, pieces_of, leg_piece, order_piece}
 use Rattle.reply_print.specs.Written.{is_plain}
+use Rattle.reply_print.proofs.Digits.{plain-decimal, plain-signed_decimal}
 use Rattle.reply_print.proofs.PlainPieces.{HasPlainTexts, HavePlainTexts, HasPlainFields, each_plain, side_plain, fraction_plain, leg_plain, order_plain, certificate_plain, refused_plain}
 use Rattle.proposal_text.specs.declared.submissions.Submission.{Submission}
 use Rattle.proposal_text.specs.declared.replies.RunStop.{RunStop}
@@ -13,10 +14,17 @@ use Rattle.proposal_text.specs.declared.replies.RunStop.TheVariants as stop
 use Rattle.proposal_text.specs.declared.replies.BoundedOutcome.{BoundedOutcome}
 use Rattle.proposal_text.specs.declared.replies.Failed.{Failed}
 use Rattle.proposal_text.specs.declared.replies.Failed.TheVariants as failed
+use Rattle.proposal_text.specs.declared.needs.Need.{Need}
+use Rattle.proposal_text.specs.declared.needs.Need.TheVariants as need
+use Rattle.proposal_text.specs.declared.replies.AccountReply.{AccountReply}
+use Rattle.proposal_text.specs.declared.replies.AccountReply.TheVariants.{Secured, Needs, Uncovered}
+use Rattle.proposal_text.specs.declared.replies.Bar.{Bar}
+use Rattle.proposal_text.specs.declared.replies.Bar.TheVariants.{NotAllowed, NotAsked, OverQuota}
 use Rattle.proposal_text.specs.declared.replies.ProposalReply.{ProposalReply}
-use Rattle.proposal_text.specs.declared.replies.ProposalReply.TheVariants.{Book, Positions, Proposed, Bounded, Stale, Unproved, Closed, Reopened, MarketIsClosed, MarketIsOpen}
+use Rattle.proposal_text.specs.declared.replies.ProposalReply.TheVariants.{Book, Positions, Proposed, Bounded, Stale, Unproved, Closed, Reopened, MarketIsClosed, MarketIsOpen, Account, Tried, Barred}
 use Rattle.reply_print.specs.ReplyPieces.{position_piece}
-use Rattle.proposal_text.specs.Pieces.{submission_piece, stop_word, bounded_end, bounded_middle, failed_word, proposal_piece}
+use Rattle.proposal_text.specs.Pieces.{submission_piece, stop_word, bounded_end, bounded_middle, failed_word, account_piece, tried_mark, bar_number, bar_word, proposal_piece}
+use Rattle.proposal_text.specs.Needs.{need_text}
 
 pub submission_plain : (s : Submission) → HasPlainTexts (submission_piece s)
 submission_plain s = (
@@ -55,6 +63,29 @@ failed_plain failed.Cover = refl
 failed_plain failed.Measure = refl
 failed_plain failed.Wide = refl
 
+pub need_plain : (n : Need) → is_plain (need_text n) ≡ true
+need_plain (need.Amount amount) = plain-decimal amount
+need_plain need.Positions = refl
+need_plain need.Unbounded = refl
+need_plain need.Wide = refl
+need_plain need.Budget = refl
+need_plain need.Sum = refl
+
+account_plain : (line : ℕ) (told : AccountReply) → HasPlainTexts (account_piece line told)
+account_plain line (Secured account amount) = (refl, tt, (refl, tt, (refl, plain-decimal amount, (refl, refl, tt))))
+account_plain line (Needs told) =
+    (refl, tt, (refl, plain-signed_decimal told.balance, (refl, tt, (refl, need_plain told.need, (refl, refl, (refl, tt, tt))))))
+account_plain line (Uncovered n) = (refl, tt, (refl, need_plain n, (refl, tt, (refl, refl, (refl, refl, tt)))))
+
+pub mark_plain : (stopped : Option RunStop) → is_plain (tried_mark stopped) ≡ true
+mark_plain (Some run) = stop_plain run
+mark_plain None = refl
+
+pub bar_plain : (bar : Bar) → is_plain (bar_word bar) ≡ true
+bar_plain NotAllowed = refl
+bar_plain NotAsked = refl
+bar_plain OverQuota = refl
+
 pub reply_plain : (line : ℕ) (reply : ProposalReply) → HasPlainTexts (proposal_piece line reply)
 reply_plain line (Book market batch) = (refl, tt, (refl, tt, (refl, orders_plain batch.orders, (refl, refl, (refl, tt, tt)))))
 reply_plain line (Positions account market positions) =
@@ -69,3 +100,7 @@ reply_plain line (Closed market orders) = (refl, tt, (refl, tt, (refl, tt, (refl
 reply_plain line (Reopened market) = (refl, tt, (refl, tt, (refl, refl, tt)))
 reply_plain line MarketIsClosed = refused_plain false line 23 0 (codes "Closed") refl
 reply_plain line MarketIsOpen = refused_plain false line 24 0 (codes "Open") refl
+reply_plain line (Account told) = account_plain line told
+reply_plain line (Tried market trial) =
+    (refl, fraction_plain trial.fill, (refl, tt, (refl, mark_plain trial.stopped, (refl, tt, (refl, refl, (refl, fraction_plain trial.surplus, tt))))))
+reply_plain line (Barred bar) = refused_plain false line (bar_number bar) 0 (bar_word bar) (bar_plain bar)

@@ -1,5 +1,5 @@
 -- What is taken out of a text or a line is within its ranges.
-use Rattle.std.proofs.Common.{◌≡◌, ℕ, ◌≤◌, ◌≤ℤ◌, pos, int_le, List, length, true, false, Bool, ◌==◌, nat_le, Option, option_and_then, codes, refl, if◌then◌else◌}
+use Rattle.std.proofs.Common.{◌≡◌, ℕ, ◌≤◌, ◌≤ℤ◌, pos, int_le, List, length, true, false, Bool, ◌==◌, nat_le, Option, Some, option_and_then, codes, refl, arith, if◌then◌else◌}
 use Rattle.std.specs.Prelude.{⊤}
 use Rattle.std.specs.List.{AllByRecursion}
 use Rattle.std.specs.Str.{bytes_eq}
@@ -7,28 +7,34 @@ use Rattle.std.proofs.lemmas.Bool.{and_parts, leb-true}
 use Rattle.arithmetic.proofs.Tests.{int_le-yes}
 use Rattle.form.specs.declared.limits.TheConstants.{MAX_BUDGET, MAX_ORDER, MAX_ORDERS}
 use Rattle.form.specs.declared.orders.Batch.{Batch}
+use Rattle.exact_num.specs.Fraction.{IsNotBelowZero}
+use Rattle.exact_num.specs.Tests.{is_not_below_zero}
+use Rattle.frac.specs.Range.{limit}
 use Rattle.frac.specs.Value.{fraction_of}
 use Rattle.frac.specs.declared.frac128.Frac128.{Frac128}
 use Rattle.cert_check.specs.declared.outcome.Claim.{Claim}
 use Rattle.cert_check.specs.declared.outcome.Mark.{Mark}
 use Rattle.cert_check.specs.declared.outcome.Mark.TheVariants as mark
 use Rattle.serde_json.specs.Data.{Data}
-use Rattle.serde_json.specs.Find.{as_number, as_u64}
+use Rattle.serde_json.specs.Find.{as_bool, as_number, as_u64}
 use Rattle.limits.specs.declared.TheConstants.{MAX_ACCOUNT, MAX_MARKET, MAX_BATCHES}
-use Rattle.reply_print.specs.Within.{IsAccount, IsMarket, IsOrderNumber, IsBatchNumber, IsBatchWithin, IsMarkWithin}
-use Rattle.reply_text.specs.BatchValues.{fraction_from, side_at}
+use Rattle.reply_print.specs.Within.{IsAccount, IsMarket, IsOrderNumber, IsBatchNumber, IsBatchWithin, IsMarkWithin, IsSmall}
+use Rattle.reply_text.specs.BatchValues.{fraction_from, side_at, whole_from}
 use Rattle.reply_text.specs.OutcomeValues.{certificate_from, claim_from}
 use Rattle.reply_text.specs.ReplyValues.{account_at, market_at, batch_from, cleared_batch_from}
 use Rattle.reply_text.specs.Taking.{from_to, list_at, natural_at, take_at}
-use Rattle.reply_text.proofs.Sound.{Sound, any, after, mapped, either, where_true, at_key, list_sound, natural_sound, from_sound}
+use Rattle.reply_text.proofs.Sound.{Sound, any, after, mapped, either, where_true, at_key, list_sound, natural_sound, small_sound, from_sound}
 use Rattle.reply_text.proofs.SoundCleared.{IsBundleListed, IsClearedWithin, batch_sound, bundle_sound, certificate_sound, cleared_batch_sound}
 use Rattle.form.specs.Between.{Between}
 use Rattle.proposal_text.specs.declared.replies.ProposalReply.{ProposalReply}
-use Rattle.proposal_text.specs.declared.replies.ProposalReply.TheVariants.{Book, Positions, Proposed, Stale, Unproved, Closed, Reopened, MarketIsClosed, MarketIsOpen}
-use Rattle.proposal_text.specs.ReplyValues.{are_bounds, are_in_order, are_surpluses, book_from, do_rise, filled, fill_at, position_of, position_from, positions_from, proposed_from, bounded_of, bounded_with, stop_by_word, outcome_from, bounded_from, closed_from, reopened_from, failed_by_word, refused_by, reply_by, rising}
+use Rattle.proposal_text.specs.declared.replies.ProposalReply.TheVariants.{Book, Positions, Proposed, Stale, Unproved, Closed, Reopened, MarketIsClosed, MarketIsOpen, Account, Barred}
+use Rattle.proposal_text.specs.ReplyValues.{are_bounds, are_in_order, are_surpluses, book_from, do_rise, filled, fill_at, position_of, position_from, positions_from, proposed_from, bounded_of, bounded_with, stop_by_word, outcome_from, bounded_from, closed_from, reopened_from, failed_by_word, secured_with, secured_from, needs_with, needs_from, not_negative, part_at, stopped_by_word, tried_with, tried_from, bar_by, plain_refusal, refused_by, reply_by, rising}
 use Rattle.proposal_text.specs.Submissions.{proposal_of, proposal_from, order_number_from, few_numbers, order_numbers_at, submission_with, submission_from}
 use Rattle.proposal_text.specs.Within.{AreInOrder, AreRising, IsProposalWithin, IsSubmissionWithin, IsPositionWithin, IsBoundedWithin, IsProposalReplyWithin}
+use Rattle.proposal_text.specs.Needs.{IsNeedWithin, need_at, size_at}
+use Rattle.proposal_text.specs.declared.replies.AccountReply.TheVariants.{Uncovered}
 use Rattle.proposal_text.proofs.RisingNumbers.{rise_are}
+use Rattle.proposal_text.proofs.SoundNeeds.{need_sound, size_sound}
 use Rattle.reply_print.specs.Look.{number_at, word_at}
 
 -- ---- proposals
@@ -146,10 +152,43 @@ one_within : (b : Bool) (x y : ProposalReply) → IsProposalReplyWithin x → Is
 one_within true x y h k = h
 one_within false x y h k = k
 
-refused_sound : (number : ℕ) (d : Data) → IsProposalReplyWithin (refused_by number d)
+plain_within : (number : ℕ) → IsProposalReplyWithin (plain_refusal number)
+plain_within number =
+    one_within (number == 20) Stale _ tt
+    (one_within (number == 23) MarketIsClosed _ tt (one_within (number == 24) MarketIsOpen (Barred (bar_by number)) tt tt))
+
+refused_sound : (number : ℕ) (d : Data) → IsSoundReply (refused_by number d)
 refused_sound number d =
-    let unproved : ProposalReply = Unproved (failed_by_word (word_at (codes "failed") d)) in
-    one_within (number == 20) Stale _ tt (one_within (number == 23) MarketIsClosed _ tt (one_within (number == 24) MarketIsOpen unproved tt tt))
+    either IsProposalReplyWithin (number == 14) _ _ (mapped IsNeedWithin IsProposalReplyWithin (λ need. Account (Uncovered need)) (need_at d) (need_sound d) (λ need n. n))
+    (either IsProposalReplyWithin (number == 21) (Some (Unproved (failed_by_word (word_at (codes "failed") d)))) (Some (plain_refusal number)) tt (plain_within number))
+
+-- ---- accounts and trials
+
+secured_sound : (d : Data) → IsSoundReply (secured_from d)
+secured_sound d =
+    after IsAccount IsProposalReplyWithin _ (account_at d) (natural_sound 1 MAX_ACCOUNT (codes "account") d)
+    (λ account a. mapped (λ n. n ≤ limit) IsProposalReplyWithin (secured_with account) (size_at limit (codes "need") d) (size_sound limit (codes "need") d) (λ amount n. (a, omega (arith, n))))
+
+needs_sound : (d : Data) → IsSoundReply (needs_from d)
+needs_sound d =
+    after IsAccount IsProposalReplyWithin _ (account_at d) (natural_sound 1 MAX_ACCOUNT (codes "account") d)
+    (λ account a. after IsSmall IsProposalReplyWithin _ _ (at_key IsSmall (codes "balance") (whole_from limit) d small_sound)
+    (λ balance b. after IsNeedWithin IsProposalReplyWithin _ (need_at d) (need_sound d)
+    (λ need n. mapped (λ secured. ⊤) IsProposalReplyWithin (needs_with account balance need) _ (any (take_at (codes "secured") as_bool d)) (λ secured s. (a, b, n)))))
+
+abbrev IsPart : Frac128 → Type 0
+IsPart x = IsNotBelowZero (fraction_of x)
+
+part_sound : (key : List ℕ) (d : Data) → Sound IsPart (part_at key d)
+part_sound key d =
+    after (λ x. ⊤) IsPart not_negative (take_at key fraction_from d) (any _)
+    (λ x t. where_true IsPart (is_not_below_zero (fraction_of x)) x (int_le-yes (pos 0) (fraction_of x).numerator))
+
+tried_sound : (d : Data) → IsSoundReply (tried_from d)
+tried_sound d =
+    after IsMarket IsProposalReplyWithin _ (market_at d) (natural_sound 1 MAX_MARKET (codes "market") d)
+    (λ market m. after IsPart IsProposalReplyWithin _ _ (part_sound (codes "fill") d)
+    (λ fill f. mapped IsPart IsProposalReplyWithin (tried_with market (stopped_by_word (word_at (codes "mark") d)) fill) _ (part_sound (codes "surplus") d) (λ surplus s. (m, f, s))))
 
 pub reply_sound : (word : List ℕ) (d : Data) → IsSoundReply (reply_by word d)
 reply_sound word d =
@@ -158,4 +197,7 @@ reply_sound word d =
     (either IsProposalReplyWithin (bytes_eq word (codes "proposed")) _ _ (proposed_sound d)
     (either IsProposalReplyWithin (bytes_eq word (codes "cleared")) _ _ (bounded_sound d)
     (either IsProposalReplyWithin (bytes_eq word (codes "closed")) _ _ (closed_sound d)
-    (either IsProposalReplyWithin (bytes_eq word (codes "reopened")) _ _ (reopened_sound d) (refused_sound (number_at (codes "number") d) d))))))
+    (either IsProposalReplyWithin (bytes_eq word (codes "reopened")) _ _ (reopened_sound d)
+    (either IsProposalReplyWithin (bytes_eq word (codes "secured")) _ _ (secured_sound d)
+    (either IsProposalReplyWithin (bytes_eq word (codes "need")) _ _ (needs_sound d)
+    (either IsProposalReplyWithin (bytes_eq word (codes "tried")) _ _ (tried_sound d) (refused_sound (number_at (codes "number") d) d)))))))))

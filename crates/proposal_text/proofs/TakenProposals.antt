@@ -1,5 +1,5 @@
 -- What is written of proposals and of the replies about them is taken out again.
-use Rattle.std.proofs.Common.{◌≡◌, ℕ, ◌≤◌, ◌≤ℤ◌, ℤ, pos, negsuc, int_le, List, [], ◌∷◌, length, true, false, if◌then◌else◌, Some, None, option_map, option_and_then, codes, refl, sym, ap, ◌∙◌, arith, true≢false}
+use Rattle.std.proofs.Common.{◌≡◌, ℕ, ◌≤◌, ◌≤ℤ◌, ℤ, pos, negsuc, int_le, List, [], ◌∷◌, length, true, false, if◌then◌else◌, Option, Some, None, option_map, option_and_then, codes, refl, sym, ap, ◌∙◌, arith, true≢false}
 use Rattle.std.specs.List.{AllByRecursion}
 use Rattle.std.proofs.lemmas.Bool.{and_from, le-leb}
 use Rattle.std.proofs.lemmas.Int.{ints}
@@ -8,6 +8,8 @@ use Rattle.form.specs.declared.limits.TheConstants.{MAX_BUDGET, MAX_ORDER, MAX_O
 use Rattle.form.specs.declared.orders.Batch.{Batch}
 use Rattle.form.specs.declared.orders.Order.{Order}
 use Rattle.form.specs.Bundles.{legs_in}
+use Rattle.exact_num.specs.Fraction.{IsNotBelowZero}
+use Rattle.frac.specs.Range.{limit}
 use Rattle.frac.specs.Value.{fraction_of}
 use Rattle.frac.specs.declared.frac128.Frac128.{Frac128}
 use Rattle.settlement.specs.declared.position.Position.{Position}
@@ -26,7 +28,7 @@ use Rattle.reply_text.specs.ReplyValues.{batch_from, few_orders, cleared_batch_o
 use Rattle.reply_text.specs.Taking.{items_map, list_at, take_at}
 use Rattle.reply_text.specs.OutcomeValues.{certificate_from}
 use Rattle.reply_text.proofs.FiveTests.{IsTaken, paired}
-use Rattle.reply_text.proofs.Taken.{natural_taken, fraction_taken, fraction_number, items_pass, items_taken}
+use Rattle.reply_text.proofs.Taken.{natural_taken, whole_taken, whole_number, fraction_taken, fraction_number, items_pass, items_taken}
 use Rattle.reply_text.proofs.TakenBatches.{IsWrittenOrder, order_is_order, order_taken, leg_taken, leg_is_leg, bundle_made_of, legs_of, side_is, side_taken, len_within}
 use Rattle.reply_text.proofs.TakenCleared.{batch_taken, claim_taken, cleared_batch_taken, fills_are_texts, fills_are_fractions, fills_taken}
 use Rattle.reply_text.proofs.TakenOutcomes.{certificate_taken, certificate_is, certificate_numbered}
@@ -37,15 +39,23 @@ use Rattle.proposal_text.specs.declared.replies.RunStop.TheVariants as stop
 use Rattle.proposal_text.specs.declared.replies.BoundedOutcome.{BoundedOutcome}
 use Rattle.proposal_text.specs.declared.replies.Failed.{Failed}
 use Rattle.proposal_text.specs.declared.replies.Failed.TheVariants as failed
+use Rattle.proposal_text.specs.declared.needs.Need.{Need}
+use Rattle.proposal_text.specs.declared.replies.AccountNeed.{AccountNeed}
+use Rattle.proposal_text.specs.declared.replies.AccountReply.{AccountReply}
+use Rattle.proposal_text.specs.declared.replies.AccountReply.TheVariants.{Secured, Needs, Uncovered}
+use Rattle.proposal_text.specs.declared.replies.Bar.{Bar}
+use Rattle.proposal_text.specs.declared.replies.Bar.TheVariants.{NotAllowed, NotAsked, OverQuota}
+use Rattle.proposal_text.specs.declared.replies.Trial.{Trial}
 use Rattle.proposal_text.specs.declared.replies.ProposalReply.{ProposalReply}
-use Rattle.proposal_text.specs.declared.replies.ProposalReply.TheVariants.{Book, Positions, Proposed, Bounded, Stale, Unproved, Closed, Reopened, MarketIsClosed, MarketIsOpen}
+use Rattle.proposal_text.specs.declared.replies.ProposalReply.TheVariants.{Book, Positions, Proposed, Bounded, Stale, Unproved, Closed, Reopened, MarketIsClosed, MarketIsOpen, Account, Tried, Barred}
 use Rattle.reply_print.specs.ReplyPieces.{position_piece}
-use Rattle.proposal_text.specs.Pieces.{submission_piece, stop_word, failed_word, proposal_piece}
-use Rattle.proposal_text.specs.ReplyShapes.{position_shape, position_numbers, is_stop, is_failed}
-use Rattle.proposal_text.specs.ReplyValues.{are_in_order, filled, position_of, position_from, rising, stop_by_word, bounded_of, failed_by_word, proposal_tests}
+use Rattle.proposal_text.specs.Pieces.{submission_piece, stop_word, failed_word, tried_mark, proposal_piece}
+use Rattle.proposal_text.specs.ReplyShapes.{position_shape, position_numbers, is_stop, is_failed, is_tried_mark}
+use Rattle.proposal_text.specs.ReplyValues.{are_in_order, filled, position_of, position_from, rising, stop_by_word, bounded_of, failed_by_word, secured_with, not_negative, stopped_by_word, tried_with, proposal_tests}
 use Rattle.proposal_text.specs.Submissions.{proposal_from, order_number_from, few_numbers, submission_with, submission_shape, proposal_numbers, submission_from}
 use Rattle.proposal_text.specs.Within.{AreInOrder, AreRising, IsSubmissionWithin, IsPositionWithin, IsProposalLineWithin}
 use Rattle.proposal_text.proofs.RisingNumbers.{are_rise}
+use Rattle.proposal_text.proofs.TakenNeeds.{held_taken, is_number, need_is, need_taken}
 
 -- ---- proposals
 
@@ -261,6 +271,71 @@ unproved_taken line f h = record {
   taken = paired _ _ line (Unproved f) (line_taken line h.0) (ap (λ g. Some (Unproved g)) (failed_taken f));
 }
 
+-- ---- accounts
+
+secured_taken : (line account amount : ℕ) → IsProposalLineWithin line (Account (Secured account amount)) → IsTakenFrom line (Account (Secured account amount))
+secured_taken line account amount h = record {
+  shape = refl;
+  numbers = is_number amount h.1.1;
+  taken = paired _ _ line _ (line_taken line h.0)
+      (then_taken _ _ account _ (natural_taken 1 MAX_ACCOUNT account h.1.0) (ap (option_map (secured_with account)) (held_taken limit amount (omega (arith, h.1.1)) h.1.1)));
+}
+
+needs_taken : (line : ℕ) (told : AccountNeed) → IsProposalLineWithin line (Account (Needs told)) → IsTakenFrom line (Account (Needs told))
+needs_taken line told h = record {
+  shape = refl;
+  numbers = and_from _ _ (whole_number told.balance h.1.1) (need_is told.need h.1.2);
+  taken = paired _ _ line _ (line_taken line h.0)
+      (then_taken _ _ told.account _ (natural_taken 1 MAX_ACCOUNT told.account h.1.0)
+      (then_taken _ _ told.balance _ (whole_taken limit told.balance h.1.1 (omega (arith, h.1.1)))
+      (then_taken _ _ told.need _ (need_taken told.need h.1.2) refl)));
+}
+
+uncovered_taken : (line : ℕ) (n : Need) → IsProposalLineWithin line (Account (Uncovered n)) → IsTakenFrom line (Account (Uncovered n))
+uncovered_taken line n h = record {
+  shape = refl;
+  numbers = need_is n h.1;
+  taken = paired _ _ line _ (line_taken line h.0) (ap (option_map (λ need. Account (Uncovered need))) (need_taken n h.1));
+}
+
+account_taken : (line : ℕ) (told : AccountReply) → IsProposalLineWithin line (Account told) → IsTakenFrom line (Account told)
+account_taken line (Secured account amount) h = secured_taken line account amount h
+account_taken line (Needs told) h = needs_taken line told h
+account_taken line (Uncovered n) h = uncovered_taken line n h
+
+-- ---- trials
+
+mark_is : (stopped : Option RunStop) → is_tried_mark (string (tried_mark stopped)) ≡ true
+mark_is (Some stop.Wide) = refl
+mark_is (Some stop.Budget) = refl
+mark_is None = refl
+
+mark_taken : (stopped : Option RunStop) → stopped_by_word (tried_mark stopped) ≡ stopped
+mark_taken (Some stop.Wide) = refl
+mark_taken (Some stop.Budget) = refl
+mark_taken None = refl
+
+part_taken : (x : Frac128) → IsNotBelowZero (fraction_of x) → option_and_then not_negative (fraction_from (piece_data (fraction x))) ≡ Some x
+part_taken x h = ap (option_and_then not_negative) (fraction_taken x) ∙ rw (int_le-true (pos 0) (fraction_of x).numerator h) refl
+
+tried_taken : (line market : ℕ) (trial : Trial) → IsProposalLineWithin line (Tried market trial) → IsTakenFrom line (Tried market trial)
+tried_taken line market trial h = record {
+  shape = and_from _ _ (mark_is trial.stopped) refl;
+  numbers = and_from _ _ (fraction_number trial.fill) (fraction_number trial.surplus);
+  taken = paired _ _ line _ (line_taken line h.0)
+      (then_taken _ _ market _ (natural_taken 1 MAX_MARKET market h.1.0)
+      (then_taken _ _ trial.fill _ (part_taken trial.fill h.1.1)
+      (ap (option_map (tried_with market (stopped_by_word (tried_mark trial.stopped)) trial.fill)) (part_taken trial.surplus h.1.2)
+      ∙ ap (λ stopped. Some (tried_with market stopped trial.fill trial.surplus)) (mark_taken trial.stopped))));
+}
+
+-- ---- refusals to whoever sent a line
+
+barred_taken : (line : ℕ) (bar : Bar) → IsProposalLineWithin line (Barred bar) → IsTakenFrom line (Barred bar)
+barred_taken line NotAllowed h = record { shape = refl; numbers = refl; taken = paired _ _ line _ (line_taken line h.0) refl }
+barred_taken line NotAsked h = record { shape = refl; numbers = refl; taken = paired _ _ line _ (line_taken line h.0) refl }
+barred_taken line OverQuota h = record { shape = refl; numbers = refl; taken = paired _ _ line _ (line_taken line h.0) refl }
+
 pub reply_taken : (line : ℕ) (reply : ProposalReply) → IsProposalLineWithin line reply → IsTakenFrom line reply
 reply_taken line (Book market batch) h = book_taken line market batch h
 reply_taken line (Positions account market positions) h = positions_taken line account market positions h
@@ -272,3 +347,6 @@ reply_taken line (Closed market orders) h = closed_taken line market orders h
 reply_taken line (Reopened market) h = reopened_taken line market h
 reply_taken line MarketIsClosed h = is_closed_taken line h
 reply_taken line MarketIsOpen h = is_open_taken line h
+reply_taken line (Account told) h = account_taken line told h
+reply_taken line (Tried market trial) h = tried_taken line market trial h
+reply_taken line (Barred bar) h = barred_taken line bar h

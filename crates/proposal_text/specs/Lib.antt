@@ -1,3 +1,4 @@
+pub mod Needs
 pub mod Pieces
 pub mod Within
 pub mod Submissions

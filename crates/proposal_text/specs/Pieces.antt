@@ -1,23 +1,32 @@
 -- What proposals and the replies about them are written as.
-use Rattle.std.specs.Prelude.{ℕ, List, false, codes}
+use Rattle.std.specs.Prelude.{ℕ, List, Option, Some, None, false, codes}
 use Rattle.form.specs.declared.orders.Batch.{Batch}
 use Rattle.cert_check.specs.declared.outcome.No.TheVariants as no
 use Rattle.cert_check.specs.declared.outcome.Unproved.{Unproved as Reason}
 use Rattle.cert_check.specs.declared.outcome.Unproved.TheVariants as unproved
 use Rattle.frac.specs.declared.frac128.Frac128.{Frac128}
 use Rattle.settlement.specs.declared.position.Position.{Position}
-use Rattle.reply_print.specs.BatchPieces.{natural, fraction, each, order_piece}
+use Rattle.reply_print.specs.BatchPieces.{natural, whole_words, fraction, each, order_piece}
 use Rattle.reply_print.specs.OutcomePieces.{certificate_piece}
-use Rattle.reply_print.specs.Piece.{Piece, words, object, Fields, no_fields, field, piece_text}
+use Rattle.reply_print.specs.Piece.{Piece, words, truth, object, Fields, no_fields, field, piece_text}
 use Rattle.reply_print.specs.ReplyPieces.{position_piece, refused_with}
+use Rattle.proposal_text.specs.declared.needs.Need.{Need}
+use Rattle.proposal_text.specs.declared.needs.Need.TheVariants as need
 use Rattle.proposal_text.specs.declared.submissions.Submission.{Submission}
 use Rattle.proposal_text.specs.declared.replies.RunStop.{RunStop}
 use Rattle.proposal_text.specs.declared.replies.RunStop.TheVariants as stop
 use Rattle.proposal_text.specs.declared.replies.BoundedOutcome.{BoundedOutcome}
 use Rattle.proposal_text.specs.declared.replies.Failed.{Failed}
 use Rattle.proposal_text.specs.declared.replies.Failed.TheVariants as failed
+use Rattle.proposal_text.specs.declared.replies.AccountNeed.{AccountNeed}
+use Rattle.proposal_text.specs.declared.replies.AccountReply.{AccountReply}
+use Rattle.proposal_text.specs.declared.replies.AccountReply.TheVariants.{Secured, Needs, Uncovered}
+use Rattle.proposal_text.specs.declared.replies.Bar.{Bar}
+use Rattle.proposal_text.specs.declared.replies.Bar.TheVariants.{NotAllowed, NotAsked, OverQuota}
+use Rattle.proposal_text.specs.declared.replies.Trial.{Trial}
 use Rattle.proposal_text.specs.declared.replies.ProposalReply.{ProposalReply}
-use Rattle.proposal_text.specs.declared.replies.ProposalReply.TheVariants.{Book, Positions, Proposed, Bounded, Stale, Unproved, Closed, Reopened, MarketIsClosed, MarketIsOpen}
+use Rattle.proposal_text.specs.declared.replies.ProposalReply.TheVariants.{Book, Positions, Proposed, Bounded, Stale, Unproved, Closed, Reopened, MarketIsClosed, MarketIsOpen, Account, Tried, Barred}
+use Rattle.proposal_text.specs.Needs.{need_text}
 
 -- ---- proposals
 
@@ -129,6 +138,67 @@ reopened_piece line market =
     (field (codes "market") (natural market)
     (field (codes "reply") (words (codes "reopened")) no_fields)))
 
+-- ---- accounts
+
+abbrev pub secured_piece : ℕ → ℕ → ℕ → Piece
+secured_piece line account amount =
+    object (field (codes "account") (natural account)
+    (field (codes "line") (natural line)
+    (field (codes "need") (words (need_text (need.Amount amount)))
+    (field (codes "reply") (words (codes "secured")) no_fields))))
+
+abbrev pub needs_piece : ℕ → AccountNeed → Piece
+needs_piece line told =
+    object (field (codes "account") (natural told.account)
+    (field (codes "balance") (whole_words told.balance)
+    (field (codes "line") (natural line)
+    (field (codes "need") (words (need_text told.need))
+    (field (codes "reply") (words (codes "need"))
+    (field (codes "secured") (truth told.secured) no_fields))))))
+
+abbrev pub uncovered_piece : ℕ → Need → Piece
+uncovered_piece line n =
+    object (field (codes "line") (natural line)
+    (field (codes "need") (words (need_text n))
+    (field (codes "number") (natural 14)
+    (field (codes "reason") (words (codes "Margin"))
+    (field (codes "reply") (words (codes "refused")) no_fields)))))
+
+abbrev pub account_piece : ℕ → AccountReply → Piece
+account_piece line (Secured account amount) = secured_piece line account amount
+account_piece line (Needs told) = needs_piece line told
+account_piece line (Uncovered n) = uncovered_piece line n
+
+-- ---- trials
+
+-- the mark of a clear whose run would stop, or would not
+abbrev pub tried_mark : Option RunStop → List ℕ
+tried_mark (Some run) = stop_word run
+tried_mark None = codes "optimal"
+
+abbrev pub tried_piece : ℕ → ℕ → Trial → Piece
+tried_piece line market trial =
+    object (field (codes "fill") (fraction trial.fill)
+    (field (codes "line") (natural line)
+    (field (codes "mark") (words (tried_mark trial.stopped))
+    (field (codes "market") (natural market)
+    (field (codes "reply") (words (codes "tried"))
+    (field (codes "surplus") (fraction trial.surplus) no_fields))))))
+
+-- ---- refusals to whoever sent a line
+
+abbrev pub bar_number : Bar → ℕ
+bar_number NotAllowed = 25
+bar_number NotAsked = 26
+bar_number OverQuota = 27
+
+abbrev pub bar_word : Bar → List ℕ
+bar_word NotAllowed = codes "NotAllowed"
+bar_word NotAsked = codes "NotAsked"
+bar_word OverQuota = codes "Quota"
+
+-- ---- any reply
+
 abbrev pub proposal_piece : ℕ → ProposalReply → Piece
 proposal_piece line (Book market batch) = book_piece line market batch
 proposal_piece line (Positions account market positions) = positions_piece line account market positions
@@ -140,6 +210,9 @@ proposal_piece line (Closed market orders) = closed_piece line market orders
 proposal_piece line (Reopened market) = reopened_piece line market
 proposal_piece line MarketIsClosed = refused_with false line 23 0 (codes "Closed")
 proposal_piece line MarketIsOpen = refused_with false line 24 0 (codes "Open")
+proposal_piece line (Account told) = account_piece line told
+proposal_piece line (Tried market trial) = tried_piece line market trial
+proposal_piece line (Barred bar) = refused_with false line (bar_number bar) 0 (bar_word bar)
 
 -- the line of a reply, without its line feed
 abbrev pub proposal_line : ℕ → ProposalReply → List ℕ

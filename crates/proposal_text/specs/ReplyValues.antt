@@ -1,6 +1,6 @@
 -- The replies about proposals as they are taken out of a line, where they are within their ranges,
 -- and their reading.
-use Rattle.std.specs.Prelude.{ℕ, ◌≡◌, pos, int_le, List, [], ◌∷◌, Bool, true, false, ◌&&◌, ◌==◌, nat_lt, Option, Some, None, Result, option_map, option_and_then, codes, if◌then◌else◌}
+use Rattle.std.specs.Prelude.{ℕ, ℤ, ◌≡◌, pos, int_le, List, [], ◌∷◌, Bool, true, false, ◌&&◌, ◌==◌, nat_lt, Option, Some, None, Result, option_map, option_and_then, codes, if◌then◌else◌}
 use Rattle.std.specs.Str.{bytes_eq}
 use Rattle.exact_num.specs.Fraction.{Fraction}
 use Rattle.exact_num.specs.Tests.{is_at_most, is_not_below_zero}
@@ -11,12 +11,14 @@ use Rattle.form.specs.declared.bundles.Bundle.{Bundle}
 use Rattle.frac.specs.Value.{fraction_of}
 use Rattle.frac.specs.declared.frac128.Frac128.{Frac128}
 use Rattle.settlement.specs.declared.position.Position.{Position}
+use Rattle.frac.specs.Range.{limit}
 use Rattle.serde_json.specs.Data.{Data}
+use Rattle.serde_json.specs.Find.{as_bool}
 use Rattle.cert_check.specs.declared.outcome.Proposal.{Proposal}
 use Rattle.form.specs.declared.limits.TheConstants.{MAX_BUDGET, MAX_ORDER, MAX_ORDERS}
 use Rattle.limits.specs.declared.TheConstants.{MAX_BATCHES}
 use Rattle.reply_print.specs.Look.{word_at, number_at}
-use Rattle.reply_text.specs.BatchValues.{fraction_from, bundle_from, side_at}
+use Rattle.reply_text.specs.BatchValues.{fraction_from, whole_from, bundle_from, side_at}
 use Rattle.reply_text.specs.declared.batch_values.ClearedBatch.{ClearedBatch}
 use Rattle.reply_text.specs.ReplyValues.{account_at, market_at, batch_from, cleared_batch_from}
 use Rattle.reply_text.specs.Taking.{natural_at, list_at, take_at}
@@ -27,8 +29,13 @@ use Rattle.proposal_text.specs.declared.replies.RunStop.TheVariants as stop
 use Rattle.proposal_text.specs.declared.replies.BoundedOutcome.{BoundedOutcome}
 use Rattle.proposal_text.specs.declared.replies.Failed.{Failed}
 use Rattle.proposal_text.specs.declared.replies.Failed.TheVariants as failed
+use Rattle.proposal_text.specs.declared.needs.Need.{Need}
+use Rattle.proposal_text.specs.declared.replies.AccountReply.TheVariants.{Secured, Needs, Uncovered}
+use Rattle.proposal_text.specs.declared.replies.Bar.{Bar}
+use Rattle.proposal_text.specs.declared.replies.Bar.TheVariants.{NotAllowed, NotAsked, OverQuota}
 use Rattle.proposal_text.specs.declared.replies.ProposalReply.{ProposalReply}
-use Rattle.proposal_text.specs.declared.replies.ProposalReply.TheVariants.{Book, Positions, Proposed, Bounded, Stale, Unproved, Closed, Reopened, MarketIsClosed, MarketIsOpen}
+use Rattle.proposal_text.specs.declared.replies.ProposalReply.TheVariants.{Book, Positions, Proposed, Bounded, Stale, Unproved, Closed, Reopened, MarketIsClosed, MarketIsOpen, Account, Tried, Barred}
+use Rattle.proposal_text.specs.Needs.{need_at, size_at}
 use Rattle.proposal_text.specs.Pieces.{proposal_line}
 use Rattle.proposal_text.specs.ReplyShapes.{numbers_by, shape_by}
 use Rattle.proposal_text.specs.Submissions.{proposal_from}
@@ -138,6 +145,47 @@ closed_from d = option_and_then (λ market. option_map (Closed market) (natural_
 abbrev pub reopened_from : Data → Option ProposalReply
 reopened_from d = option_map Reopened (market_at d)
 
+-- ---- accounts
+
+abbrev pub secured_with : ℕ → ℕ → ProposalReply
+secured_with account amount = Account (Secured account amount)
+
+abbrev pub secured_from : Data → Option ProposalReply
+secured_from d = option_and_then (λ account. option_map (secured_with account) (size_at limit (codes "need") d)) (account_at d)
+
+abbrev pub needs_with : ℕ → ℤ → Need → Bool → ProposalReply
+needs_with account balance need secured = Account (Needs (record { account = account; balance = balance; need = need; secured = secured }))
+
+abbrev pub needs_from : Data → Option ProposalReply
+needs_from d =
+    option_and_then (λ account.
+    option_and_then (λ balance.
+    option_and_then (λ need. option_map (needs_with account balance need) (take_at (codes "secured") as_bool d)) (need_at d))
+    (take_at (codes "balance") (whole_from limit) d))
+    (account_at d)
+
+-- ---- trials
+
+abbrev pub stopped_by_word : List ℕ → Option RunStop
+stopped_by_word word = if bytes_eq word (codes "optimal") then None else Some (stop_by_word word)
+
+-- a fraction that is not below 0
+abbrev pub not_negative : Frac128 → Option Frac128
+not_negative x = if is_not_below_zero (fraction_of x) then Some x else None
+
+abbrev pub part_at : List ℕ → Data → Option Frac128
+part_at key d = option_and_then not_negative (take_at key fraction_from d)
+
+abbrev pub tried_with : ℕ → Option RunStop → Frac128 → Frac128 → ProposalReply
+tried_with market stopped fill surplus = Tried market (record { fill = fill; surplus = surplus; stopped = stopped })
+
+abbrev pub tried_from : Data → Option ProposalReply
+tried_from d =
+    option_and_then (λ market.
+    option_and_then (λ fill. option_map (tried_with market (stopped_by_word (word_at (codes "mark") d)) fill) (part_at (codes "surplus") d))
+    (part_at (codes "fill") d))
+    (market_at d)
+
 -- ---- refusals
 
 abbrev pub failed_by_word : List ℕ → Failed
@@ -148,15 +196,25 @@ failed_by_word word =
     else if bytes_eq word (codes "Measure") then failed.Measure
     else failed.Wide
 
--- by the number of the refusal
-abbrev pub refused_by : ℕ → Data → ProposalReply
-refused_by number d =
+abbrev pub bar_by : ℕ → Bar
+bar_by number = if number == 25 then NotAllowed else if number == 26 then NotAsked else OverQuota
+
+-- one that tells nothing more than its number
+abbrev pub plain_refusal : ℕ → ProposalReply
+plain_refusal number =
     if number == 20 then Stale
     else if number == 23 then MarketIsClosed
     else if number == 24 then MarketIsOpen
-    else Unproved (failed_by_word (word_at (codes "failed") d))
+    else Barred (bar_by number)
 
-abbrev pub refused_from : Data → ProposalReply
+-- by the number of the refusal
+abbrev pub refused_by : ℕ → Data → Option ProposalReply
+refused_by number d =
+    if number == 14 then option_map (λ need. Account (Uncovered need)) (need_at d)
+    else if number == 21 then Some (Unproved (failed_by_word (word_at (codes "failed") d)))
+    else Some (plain_refusal number)
+
+abbrev pub refused_from : Data → Option ProposalReply
 refused_from d = refused_by (number_at (codes "number") d) d
 
 -- ---- the whole line
@@ -169,7 +227,10 @@ reply_by word d =
     else if bytes_eq word (codes "cleared") then bounded_from d
     else if bytes_eq word (codes "closed") then closed_from d
     else if bytes_eq word (codes "reopened") then reopened_from d
-    else Some (refused_from d)
+    else if bytes_eq word (codes "secured") then secured_from d
+    else if bytes_eq word (codes "need") then needs_from d
+    else if bytes_eq word (codes "tried") then tried_from d
+    else refused_from d
 
 abbrev pub proposal_replies : ReplyTests ProposalReply
 proposal_replies = record { shape_by = shape_by; numbers_by = numbers_by; reply_by = reply_by; line = proposal_line }

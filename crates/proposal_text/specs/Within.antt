@@ -1,5 +1,5 @@
 -- Proposals and the replies about them within their ranges.
-use Rattle.std.specs.Prelude.{ℕ, List, ◌≡◌, ◌≤◌, pos, ◌≤ℤ◌, ⊤, length, map}
+use Rattle.std.specs.Prelude.{ℕ, List, ◌≡◌, ◌≤◌, ◌<◌, ◌^◌, pos, ◌≤ℤ◌, ⊤, length, map}
 use Rattle.std.specs.List.{All, AllByRecursion}
 use Rattle.std.specs.List.Sorted.{IsStrictlyIncreasing}
 use Rattle.exact_num.specs.Fraction.{AtMost, IsNotBelowZero}
@@ -13,11 +13,14 @@ use Rattle.form.specs.Limits.{IsListed}
 use Rattle.form.specs.Payoff.{option_of}
 use Rattle.cert_check.specs.declared.outcome.Proposal.{Proposal}
 use Rattle.settlement.specs.declared.position.Position.{Position}
-use Rattle.reply_print.specs.Within.{IsLine, IsAccount, IsMarket, IsOrderNumber, IsBatchNumber, IsBatchWithin, IsCoverWithin, IsPointWithin}
+use Rattle.reply_print.specs.Within.{IsLine, IsAccount, IsMarket, IsSmall, IsOrderNumber, IsBatchNumber, IsBatchWithin, IsCoverWithin, IsPointWithin}
 use Rattle.proposal_text.specs.declared.submissions.Submission.{Submission}
 use Rattle.proposal_text.specs.declared.replies.BoundedOutcome.{BoundedOutcome}
+use Rattle.proposal_text.specs.declared.replies.AccountReply.{AccountReply}
+use Rattle.proposal_text.specs.declared.replies.AccountReply.TheVariants.{Secured, Needs, Uncovered}
 use Rattle.proposal_text.specs.declared.replies.ProposalReply.{ProposalReply}
-use Rattle.proposal_text.specs.declared.replies.ProposalReply.TheVariants.{Book, Positions, Proposed, Bounded, Stale, Unproved, Closed, Reopened, MarketIsClosed, MarketIsOpen}
+use Rattle.proposal_text.specs.declared.replies.ProposalReply.TheVariants.{Book, Positions, Proposed, Bounded, Stale, Unproved, Closed, Reopened, MarketIsClosed, MarketIsOpen, Account, Tried, Barred}
+use Rattle.proposal_text.specs.Needs.{IsNeedWithin}
 
 -- a cover and a measure of numbers of 128 bits
 abbrev pub IsProposalWithin : Proposal → Type 0
@@ -50,6 +53,12 @@ pub record AreInOrder (surplus best_surplus least_bound bound : Frac128) : Type 
   pub bounded : AtMost (fraction_of best_surplus) (fraction_of least_bound)
   pub least : AtMost (fraction_of least_bound) (fraction_of bound)
 
+-- a need of at most 2^127 - 1
+abbrev pub IsAccountReplyWithin : AccountReply → Type 0
+IsAccountReplyWithin (Secured account amount) = IsAccount account × (amount < 2 ^ 127)
+IsAccountReplyWithin (Needs told) = IsAccount told.account × IsSmall told.balance × IsNeedWithin told.need
+IsAccountReplyWithin (Uncovered need) = IsNeedWithin need
+
 abbrev pub IsProposalReplyWithin : ProposalReply → Type 0
 IsProposalReplyWithin (Book market batch) = IsMarket market × IsBatchWithin batch × AreRising batch.orders
 IsProposalReplyWithin (Positions account market positions) = IsAccount account × IsMarket market × AllByRecursion (IsPositionWithin account market) positions
@@ -61,6 +70,9 @@ IsProposalReplyWithin (Closed market orders) = IsMarket market × (orders ≤ MA
 IsProposalReplyWithin (Reopened market) = IsMarket market
 IsProposalReplyWithin MarketIsClosed = ⊤
 IsProposalReplyWithin MarketIsOpen = ⊤
+IsProposalReplyWithin (Account told) = IsAccountReplyWithin told
+IsProposalReplyWithin (Tried market trial) = IsMarket market × IsNotBelowZero (fraction_of trial.fill) × IsNotBelowZero (fraction_of trial.surplus)
+IsProposalReplyWithin (Barred bar) = ⊤
 
 -- a line and its reply
 abbrev pub IsProposalLineWithin : ℕ → ProposalReply → Type 0

@@ -10,7 +10,7 @@ use reply_print::printed_outcomes::add_certificate;
 use reply_print::printing::{add_field, add_items, add_key, add_number, add_words, append};
 use std::alloc::AllocError;
 
-fn word(run: RunStop) -> &'static str
+pub(crate) fn stop(run: RunStop) -> &'static str
     ensures { result.now ≡ stop_word run }
 {
     match run {
@@ -27,7 +27,7 @@ fn add_end(line: &mut Vec<u8>, batch: &Batch, outcome: &BoundedOutcome) -> Resul
     add_key(line, true, "orders")?;
     add_orders(line, batch.orders.as_slice(), false)?;
     add_words(line, true, "reply", "cleared")?;
-    add_words(line, true, "run", word(outcome.run))?;
+    add_words(line, true, "run", stop(outcome.run))?;
     add_field(line, true, "surplus", &outcome.proposal.claim.surplus)?;
     add_number(line, true, "underlyings", u64::from(batch.underlyings))?;
     add_number(line, true, "units", u64::from(outcome.units))?;

@@ -2,8 +2,10 @@
 //! run, both ways.
 #![tactic(auto)]
 
+mod account_lines;
 mod bounded_lines;
 pub mod laws;
+pub mod needs;
 mod printing;
 pub mod reading;
 pub mod replies;
@@ -12,8 +14,12 @@ mod reply_values;
 pub mod submission_text;
 pub mod submissions;
 
+pub use needs::Need;
 pub use printing::print_proposal_reply;
 pub use reading::read_proposal_reply;
-pub use replies::{BoundedOutcome, Failed, Positions, ProposalReply, RunStop, failed_as};
+pub use replies::{
+    AccountNeed, AccountReply, Bar, BoundedOutcome, Failed, Positions, ProposalReply, RunStop,
+    Trial, failed_as,
+};
 pub use submission_text::{print_submission, read_submission};
 pub use submissions::Submission;

@@ -2,10 +2,11 @@
 ghost use Rattle.std.specs.Prelude.{◌≡◌, ◌++◌, IfOk, OnOk, false};
 ghost use Rattle.reply_print.specs.Piece.{piece_text};
 ghost use Rattle.reply_print.specs.ReplyPieces.{refused_with};
-ghost use Rattle.proposal_text.specs.Pieces.{book_piece, closed_piece, failed_word, positions_piece, proposal_line, proposal_piece, proposed_piece, reopened_piece, unproved_piece};
+ghost use Rattle.proposal_text.specs.Pieces.{bar_number, bar_word, book_piece, closed_piece, failed_word, positions_piece, proposal_line, proposal_piece, proposed_piece, reopened_piece, tried_mark, tried_piece, unproved_piece};
 
-use crate::bounded_lines::add_bounded;
-use crate::replies::{Failed, ProposalReply};
+use crate::account_lines::add_account;
+use crate::bounded_lines::{add_bounded, stop};
+use crate::replies::{Bar, Failed, ProposalReply, RunStop, Trial};
 use form::Batch;
 use frac::Frac128;
 use reply_print::printed_orders::add_orders;
@@ -128,6 +129,49 @@ fn add_unproved(line: &mut Vec<u8>, at: u32, failed: Failed) -> Result<(), Alloc
     append(line, "}")
 }
 
+fn mark(stopped: Option<RunStop>) -> &'static str
+    ensures { result.now ≡ tried_mark stopped }
+{
+    match stopped {
+        Some(run) => stop(run),
+        None => "optimal",
+    }
+}
+
+fn add_tried(line: &mut Vec<u8>, at: u32, market: u32, trial: &Trial) -> Result<(), AllocError>
+    ensures { OnOk result (line.new.items
+        ≡ line.old.items ++ piece_text (tried_piece at market trial.now)) }
+{
+    append(line, "{")?;
+    add_field(line, false, "fill", &trial.fill)?;
+    add_number(line, true, "line", u64::from(at))?;
+    add_words(line, true, "mark", mark(trial.stopped))?;
+    add_number(line, true, "market", u64::from(market))?;
+    add_words(line, true, "reply", "tried")?;
+    add_field(line, true, "surplus", &trial.surplus)?;
+    append(line, "}")
+}
+
+fn number(bar: Bar) -> u64
+    ensures { result ≡ bar_number bar }
+{
+    match bar {
+        Bar::NotAllowed => 25,
+        Bar::NotAsked => 26,
+        Bar::OverQuota => 27,
+    }
+}
+
+fn reason(bar: Bar) -> &'static str
+    ensures { result.now ≡ bar_word bar }
+{
+    match bar {
+        Bar::NotAllowed => "NotAllowed",
+        Bar::NotAsked => "NotAsked",
+        Bar::OverQuota => "Quota",
+    }
+}
+
 // Adds a reply.
 fn add_reply(line: &mut Vec<u8>, at: u32, reply: &ProposalReply) -> Result<(), AllocError>
     ensures { OnOk result (line.new.items
@@ -165,6 +209,9 @@ fn add_reply(line: &mut Vec<u8>, at: u32, reply: &ProposalReply) -> Result<(), A
         ProposalReply::Reopened { market } => add_reopened(line, at, *market),
         ProposalReply::MarketIsClosed => add_refused(line, at, 23, "Closed"),
         ProposalReply::MarketIsOpen => add_refused(line, at, 24, "Open"),
+        ProposalReply::Account(told) => add_account(line, at, told),
+        ProposalReply::Tried { market, trial } => add_tried(line, at, *market, trial),
+        ProposalReply::Barred(bar) => add_refused(line, at, number(*bar), reason(*bar)),
     }
 }
 

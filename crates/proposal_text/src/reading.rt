@@ -8,16 +8,17 @@ ghost use Rattle.proposal_text.specs.ReplyValues.{IsProposalLineOf, proposal_rep
 use crate::printing::print_proposal_reply;
 use crate::replies::ProposalReply;
 use crate::reply_shapes::{
-    are_numbered, book_shape, bounded_shape, closed_shape, positions_shape, proposed_numbers,
-    proposed_shape, refused_shape, reopened_shape,
+    are_numbered, book_shape, bounded_shape, closed_shape, needs_numbers, needs_shape,
+    positions_shape, proposed_numbers, proposed_shape, refused_numbers, refused_shape,
+    reopened_shape, secured_shape, tried_numbers, tried_shape,
 };
 use crate::reply_values::{
-    book_from, bounded_from, closed_from, positions_from, proposed_from, refused_from,
-    reopened_from,
+    book_from, bounded_from, closed_from, needs_from, positions_from, proposed_from, refused_from,
+    reopened_from, secured_from, tried_from,
 };
 use crate::submission_text::proposal_numbers;
 use reply_print::cleared_numbers::has_fraction;
-use reply_print::look::{has_at, number_at};
+use reply_print::look::{has_at, has_whole_text, number_at};
 use reply_text::reading::json_value;
 use reply_text::tested::read_value;
 use reply_text::{LineFault, TestedReply};
@@ -35,6 +36,9 @@ impl TestedReply for ProposalReply {
             "cleared" => bounded_shape(value),
             "closed" => closed_shape(value),
             "reopened" => reopened_shape(value),
+            "secured" => secured_shape(value),
+            "need" => needs_shape(value),
+            "tried" => tried_shape(value),
             "refused" => refused_shape(value, number_at(value, "number")),
             _ => false,
         }
@@ -45,6 +49,10 @@ impl TestedReply for ProposalReply {
             "positions" => has_at(value, "positions", are_numbered),
             "proposed" => proposed_numbers(value),
             "cleared" => has_fraction(value, "bound") && proposal_numbers(value),
+            "secured" => has_whole_text(value, "need"),
+            "need" => needs_numbers(value),
+            "tried" => tried_numbers(value),
+            "refused" => refused_numbers(value, number_at(value, "number")),
             _ => true,
         }
     }
@@ -57,7 +65,10 @@ impl TestedReply for ProposalReply {
             "cleared" => bounded_from(alloc, value),
             "closed" => Ok(closed_from(value)),
             "reopened" => Ok(reopened_from(value)),
-            _ => Ok(Some(refused_from(value))),
+            "secured" => Ok(secured_from(value)),
+            "need" => Ok(needs_from(value)),
+            "tried" => Ok(tried_from(value)),
+            _ => Ok(refused_from(value)),
         }
     }
 

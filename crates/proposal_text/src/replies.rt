@@ -1,10 +1,11 @@
-//! The replies that `serve` has to lines of proposals and of phases, and to a clear whose outcome
-//! was proposed.
+//! The replies that `serve` has beside those of a run: to lines of proposals and phases, to a clear
+//! whose outcome was proposed, and of what accounts need and what would be filled.
 ghost use Rattle.std.specs.Prelude.{◌≡◌, ◌≢◌};
 ghost use Rattle.cert_check.specs.declared.outcome.No.TheVariants as no;
 ghost use Rattle.cert_check.specs.declared.outcome.Unproved.TheVariants as unproved;
 ghost use Rattle.proposal_text.specs.Pieces.{failed_as};
 
+use crate::needs::Need;
 use cert_check::{No, Proposal, Unproved};
 use form::Batch;
 use frac::Frac128;
@@ -52,7 +53,47 @@ pub enum Failed {
     Wide,
 }
 
-/// What a line about proposals or phases is answered, and a clear whose outcome was proposed.
+/// What an account has and needs, and whether it is secured.
+#[derive(Clone, Copy, Debug, PartialEq, Eq)]
+pub struct AccountNeed {
+    pub account: u32,
+    pub balance: i128,
+    pub need: Need,
+    pub secured: bool,
+}
+
+/// What is told of an account and its need.
+#[derive(Clone, Copy, Debug, PartialEq, Eq)]
+pub enum AccountReply {
+    /// The account is secured from here on, and needs so many ticks.
+    Secured { account: u32, need: u128 },
+    /// What the account has and needs.
+    Needs(AccountNeed),
+    /// The line would leave the account less than it needs.
+    Uncovered { need: Need },
+}
+
+/// What a clear would do with one order more at the end of a market's live ones: how much of that
+/// order it would fill, its surplus, and why its run would stop, if it would not be the best.
+#[derive(Clone, Copy, Debug, PartialEq, Eq)]
+pub struct Trial {
+    pub fill: Frac128,
+    pub surplus: Frac128,
+    pub stopped: Option<RunStop>,
+}
+
+/// Why a line is refused to whoever sent it.
+#[derive(Clone, Copy, Debug, PartialEq, Eq)]
+pub enum Bar {
+    /// The line is not for this session.
+    NotAllowed,
+    /// The line is no question.
+    NotAsked,
+    /// The session has as much as one may have.
+    OverQuota,
+}
+
+/// What `serve` answers that a run does not.
 #[derive(Debug, Drop)]
 pub enum ProposalReply {
     /// The live orders of a market, by rising number.
@@ -101,6 +142,15 @@ pub enum ProposalReply {
     MarketIsClosed,
     /// The market is not closed, so that it is not opened again.
     MarketIsOpen,
+    /// What is told of an account and its need.
+    Account(AccountReply),
+    /// What a clear of the market would do with one order more.
+    Tried {
+        market: u32,
+        trial: Trial,
+    },
+    /// The line is refused to whoever sent it.
+    Barred(Bar),
 }
 
 /// What a proposal fails that is judged no bound, which is never the bound itself.

@@ -1,20 +1,27 @@
 // The replies that are taken out of a line, where they are within their ranges.
-ghost use Rattle.std.specs.Prelude.{◌≡◌, IfOk};
+ghost use Rattle.std.specs.Prelude.{◌≡◌, IfOk, codes};
 ghost use Rattle.exact_num.specs.Tests.{is_not_below_zero};
 ghost use Rattle.frac.specs.Value.{fraction_of};
+ghost use Rattle.serde_json.specs.Find.{as_bool};
 ghost use Rattle.serde_json.specs.View.{view};
-ghost use Rattle.proposal_text.specs.ReplyValues.{are_bounds as bounds_are, are_in_order as is_ordered, are_surpluses as surpluses_are, book_from as book_is, bounded_from as bounded_is, closed_from as closed_is, do_rise, failed_by_word as failed_named, fill_at as fill_found, outcome_from as outcome_is, position_from as position_is, positions_from as positions_are, proposed_from as proposed_is, refused_from as refused_is, reopened_from as reopened_is, stop_by_word as stop_named};
+ghost use Rattle.reply_text.specs.Taking.{take_at};
+ghost use Rattle.proposal_text.specs.ReplyValues.{are_bounds as bounds_are, are_in_order as is_ordered, are_surpluses as surpluses_are, bar_by as bar_named, book_from as book_is, bounded_from as bounded_is, closed_from as closed_is, do_rise, failed_by_word as failed_named, fill_at as fill_found, needs_from as needs_is, outcome_from as outcome_is, part_at as part_found, plain_refusal as plain_refusal_named, position_from as position_is, positions_from as positions_are, proposed_from as proposed_is, refused_by as refused_named, refused_from as refused_is, reopened_from as reopened_is, secured_from as secured_is, stop_by_word as stop_named, stopped_by_word as stopped_named, tried_from as tried_is};
 
-use crate::replies::{BoundedOutcome, Failed, Positions, ProposalReply, RunStop};
+use crate::needs::{need_at, size_at};
+use crate::replies::{
+    AccountNeed, AccountReply, Bar, BoundedOutcome, Failed, Positions, ProposalReply, RunStop,
+    Trial,
+};
 use crate::submission_text::proposal_from;
 use exact_num::Exact;
 use form::{MAX_BUDGET, MAX_ORDERS, Order};
 use frac::Frac128;
+use reply_print::fraction_texts::LIMIT;
 use reply_print::look::{number_at, word_at};
 use reply_text::batch_values::{batch_from, bundle_from, cleared_batch_from, side_at};
 use reply_text::certificate_values::fraction_at;
 use reply_text::taking::{
-    ItemReader, account_at, batch_at, list_at, market_at, natural_at, order_at,
+    ItemReader, account_at, batch_at, list_at, market_at, natural_at, order_at, whole_at,
 };
 use serde_json::Value;
 use settlement::Position;
@@ -252,10 +259,22 @@ fn failed(word: &str) -> Failed
     }
 }
 
-pub(crate) fn refused_from(value: &Value) -> ProposalReply
-    ensures { result ≡ refused_is (view value.now) }
+fn bar(number: u64) -> Bar
+    ensures { result ≡ bar_named number }
 {
-    let number = number_at(value, "number");
+    if number == 25 {
+        Bar::NotAllowed
+    } else if number == 26 {
+        Bar::NotAsked
+    } else {
+        Bar::OverQuota
+    }
+}
+
+// The refusal that tells nothing more than its number.
+fn plain_refusal(number: u64) -> ProposalReply
+    ensures { result ≡ plain_refusal_named number }
+{
     if number == 20 {
         ProposalReply::Stale
     } else if number == 23 {
@@ -263,8 +282,94 @@ pub(crate) fn refused_from(value: &Value) -> ProposalReply
     } else if number == 24 {
         ProposalReply::MarketIsOpen
     } else {
-        ProposalReply::Unproved {
-            failed: failed(word_at(value, "failed")),
-        }
+        ProposalReply::Barred(bar(number))
     }
+}
+
+fn refused_by(value: &Value, number: u64) -> Option<ProposalReply>
+    ensures { result ≡ refused_named number (view value.now) }
+{
+    if number == 14 {
+        let need = need_at(value)?;
+        return Some(ProposalReply::Account(AccountReply::Uncovered { need }));
+    }
+    if number == 21 {
+        return Some(ProposalReply::Unproved {
+            failed: failed(word_at(value, "failed")),
+        });
+    }
+    Some(plain_refusal(number))
+}
+
+pub(crate) fn refused_from(value: &Value) -> Option<ProposalReply>
+    ensures { result ≡ refused_is (view value.now) }
+{
+    refused_by(value, number_at(value, "number"))
+}
+
+pub(crate) fn secured_from(value: &Value) -> Option<ProposalReply>
+    ensures { result ≡ secured_is (view value.now) }
+{
+    let account = account_at(value)?;
+    let need = size_at(value, "need", LIMIT)?;
+    Some(ProposalReply::Account(AccountReply::Secured { account, need }))
+}
+
+// Whether an account is secured, as it is told.
+fn secured_at(value: &Value) -> Option<bool>
+    ensures { result ≡ take_at (codes "secured") as_bool (view value.now) }
+{
+    value.get("secured").and_then(Value::as_bool)
+}
+
+pub(crate) fn needs_from(value: &Value) -> Option<ProposalReply>
+    ensures { result ≡ needs_is (view value.now) }
+{
+    let account = account_at(value)?;
+    let balance = whole_at(value, "balance", LIMIT)?;
+    let need = need_at(value)?;
+    let secured = secured_at(value)?;
+    Some(ProposalReply::Account(AccountReply::Needs(AccountNeed {
+        account,
+        balance,
+        need,
+        secured,
+    })))
+}
+
+// The fraction at a key, where it is not below 0.
+fn part_at(value: &Value, key: &str) -> Option<Frac128>
+    ensures { result ≡ part_found key.now (view value.now) }
+{
+    let part = fraction_at(value, key)?;
+    if is_not_negative(part) {
+        Some(part)
+    } else {
+        None
+    }
+}
+
+fn stopped(word: &str) -> Option<RunStop>
+    ensures { result ≡ stopped_named word.now }
+{
+    if word == "optimal" {
+        None
+    } else {
+        Some(run_stop(word))
+    }
+}
+
+pub(crate) fn tried_from(value: &Value) -> Option<ProposalReply>
+    ensures { result ≡ tried_is (view value.now) }
+{
+    let market = market_at(value)?;
+    let fill = part_at(value, "fill")?;
+    let surplus = part_at(value, "surplus")?;
+    let stopped = stopped(word_at(value, "mark"));
+    let trial = Trial {
+        fill,
+        surplus,
+        stopped,
+    };
+    Some(ProposalReply::Tried { market, trial })
 }

@@ -24,11 +24,12 @@ use Rattle.portfolio_margin.specs.declared.needs.Needed.TheVariants as needed
 use Rattle.portfolio_margin.specs.Need.{Demand, demand_sum, demand_word, first_demand_word, or_word, whole_demand}
 use Rattle.portfolio_margin.specs.Owed.{fill_of, fills_of}
 use Rattle.portfolio_margin.specs.Run.{MarginQuestion, Margin, Turn, at_state, endless, ends, goes, least, margin_run, net_at, on_found, on_turn, order_of, orders_of, question_of, turn_at, turns_from, wanted_at}
-use Rattle.guarded_lines.specs.declared.told.Need.{Need}
-use Rattle.guarded_lines.specs.declared.told.Need.TheVariants as need
+use Rattle.proposal_text.specs.declared.needs.Need.{Need}
+use Rattle.proposal_text.specs.declared.needs.Need.TheVariants as need
 use Rattle.guarded_lines.specs.Margins.{are_many, held_by, run_in, told_of}
 use Rattle.guarded_lines.specs.Needs.{demand_in, demands_in, liability_in, liability_of, margin_budget, need_as, need_in}
-use Rattle.journal_audit.specs.AskedLines.{IsMarginWithin, IsNeedWithin}
+use Rattle.journal_audit.specs.AskedLines.{IsMarginWithin}
+use Rattle.proposal_text.specs.Needs.{IsNeedWithin}
 use Rattle.reply_print.specs.OutcomePieces.{state_entries}
 use Rattle.reply_print.specs.Within as reply
 use Rattle.form.specs.StateOf.{state_of}

@@ -6,7 +6,10 @@ use Rattle.std.specs.Option.{option_map_or}
 use Rattle.std.proofs.lemmas.List.Elements.{All-append, All-from_recursion}
 use Rattle.proposal_lines.specs.AllKinds.{said_line}
 use Rattle.journal_audit.specs.declared.asked_replies.AskedReply.TheVariants as told
-use Rattle.journal_audit.specs.AskedLines.{IsNeedWithin, IsPriceWithin, asked_line}
+use Rattle.journal_audit.specs.AskedLines.{IsPriceWithin, asked_line}
+use Rattle.proposal_text.specs.Needs.{IsNeedWithin}
+use Rattle.proposal_text.specs.declared.replies.AccountReply.TheVariants as account
+use Rattle.proposal_text.specs.declared.replies.ProposalReply.TheVariants.{Account}
 use Rattle.command_text.specs.declared.command.Body.{Body}
 use Rattle.command_text.specs.declared.command.Body.TheVariants as body
 use Rattle.command_text.specs.declared.command.Command.{Command}
@@ -29,7 +32,7 @@ use Rattle.guarded_lines.specs.declared.replies.GuardedReply.TheVariants as guar
 use Rattle.command_text.specs.declared.asked.Fault.{Fault}
 use Rattle.command_text.specs.declared.asked.Fault.TheVariants.{Syntax, Range}
 use Rattle.command_text.specs.declared.requests.MarginRequest.{MarginRequest}
-use Rattle.guarded_lines.specs.declared.told.Need.{Need}
+use Rattle.proposal_text.specs.declared.needs.Need.{Need}
 use Rattle.guarded_lines.specs.declared.told.ToldMargin.{ToldMargin}
 use Rattle.guarded_lines.specs.declared.told.ToldMargin.TheVariants as margin
 use Rattle.guarded_lines.specs.Margins.{margin_refusals, market_refusals, run_in, told_of}
@@ -72,7 +75,7 @@ use Rattle.reply_ranges.proofs.States.{IsRanged}
 use Rattle.reply_ranges.proofs.StepReplies.{reply_within}
 use Rattle.reply_ranges.proofs.Margins.{margin_within, need_within}
 use Rattle.reply_ranges.proofs.Owed.{AreOwed}
-use Rattle.reply_ranges.proofs.Texts.{IsServedText, asked_text, run_text}
+use Rattle.reply_ranges.proofs.Texts.{IsServedText, asked_text, proposal_text, run_text}
 
 -- an exchange before the line behind so many
 pub record IsStanding (lines : ℕ) (state : ExchangeState) : Type 0 where
@@ -200,7 +203,7 @@ module _ (lines number : ℕ) (few : lines + 1 ≤ MAX_LINES) (is_line : IsLine 
       by : (need : Option Need) → IfSome need IsNeedWithin
           → IsServedText (guarded_reply_line number (option_map_or (λ need. (guarded_reply.Uncovered need, state)) need (plain_reply_to state said)).0 ++ 10 ∷ [])
       by None is = run_served said within field
-      by (Some need) is = asked_text number (told.Uncovered need) (is_line, is)
+      by (Some need) is = proposal_text number (Account (account.Uncovered need)) (is_line, is) tt
 
   margin_served : (request : MarginRequest) → IsMarginWithin request → IsServedText (guarded_reply_line number (guarded_reply_to state (Ok (asks.Margin request))).0 ++ 10 ∷ [])
   margin_served request within = by (first_of (margin_refusals state request)) refl

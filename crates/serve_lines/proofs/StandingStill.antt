@@ -16,7 +16,7 @@ use Rattle.exchange_core.specs.declared.refusal.Refusal.{Refusal}
 use Rattle.guarded_lines.specs.Replies.{plain_reply_to}
 use Rattle.guarded_lines.specs.Withdrawals.{uncovered_by}
 use Rattle.guarded_lines.specs.declared.replies.GuardedReply.TheVariants as guarded_reply
-use Rattle.guarded_lines.specs.declared.told.Need.{Need}
+use Rattle.proposal_text.specs.declared.needs.Need.{Need}
 use Rattle.lists.specs.Refusals.{first_of}
 use Rattle.order_book.specs.Book.{live_of}
 use Rattle.order_book.specs.Markets.{with_live}

@@ -17,5 +17,8 @@ returns-in_default c =
       is (codes "cleared") c.in_default.not-cleared,
       is (codes "closed") c.in_default.not-closed,
       is (codes "reopened") c.in_default.not-reopened,
+      is (codes "secured") c.in_default.not-secured,
+      is (codes "need") c.in_default.not-need,
+      is (codes "tried") c.in_default.not-tried,
       is (codes "refused") c.in_default.not-refused,
     ) refl

@@ -3,8 +3,9 @@ use Rattle.std.proofs.lemmas.Result.{on_ok_weaker}
 use Rattle.reply_print.specs.BatchPieces.{natural}
 use Rattle.reply_print.specs.Piece.{words, no_fields, field}
 use Rattle.reply_print.proofs.Behind.{closed, fields_of}
-use Rattle.guarded_lines.specs.Told.{need_text, uncovered_piece}
-use Rattle.guarded_lines.proofs.told.add_uncovered.Goals as goal
+use Rattle.proposal_text.specs.Needs.{need_text}
+use Rattle.proposal_text.specs.Pieces.{uncovered_piece}
+use Rattle.proposal_text.proofs.account_lines.add_uncovered.Goals as goal
 
 pub returns : goal.returns
 returns c =

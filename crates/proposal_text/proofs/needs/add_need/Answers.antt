@@ -2,8 +2,8 @@ use Rattle.std.proofs.Common.{true, codes}
 use Rattle.std.proofs.lemmas.Result.{on_ok_weaker}
 use Rattle.reply_print.specs.Piece.{words}
 use Rattle.reply_print.proofs.Behind.{field_added, quoted}
-use Rattle.guarded_lines.specs.Told.{need_text}
-use Rattle.guarded_lines.proofs.told.add_need.Goals as goal
+use Rattle.proposal_text.specs.Needs.{need_text}
+use Rattle.proposal_text.proofs.needs.add_need.Goals as goal
 
 pub returns : goal.returns
 returns c =
