@@ -1,0 +1,4 @@
+//! Laws over messages whose answers may look at the session that says them.
+#![tactic(auto)]
+
+pub mod laws;
