@@ -47,10 +47,10 @@ use Rattle.journal_check.specs.Findings.{bounded_finding, cleared_finding, fault
 use Rattle.journal_check.specs.Laws.{IfCleared, IsCertified, IsSoundLineOf}
 use Rattle.journal_audit.specs.declared.gate_lines.GateLine.{GateLine}
 use Rattle.journal_audit.specs.declared.gate_lines.GateLine.TheVariants.{Malformed, Sessions, Expecting}
-use Rattle.journal_audit.specs.Accepted.{accepted_line, before_end, between, if_braced, is_accepted, is_braced, is_object, message_from, reply_in, tail_text}
-use Rattle.journal_audit.specs.Findings.{accepted_finding, audit_finding, beside, line_finding, plain_found, proposal_finding, proposal_found, reply_found, served_finding, session_beside, tells_asked, tells_proposal, told_finding, unspelled, value_finding}
+use Rattle.journal_audit.specs.Accepted.{accepted_line, before_end, between, if_braced, is_accepted, is_braced, is_object, is_questioned, message_from, question_in, question_line, question_tail, reply_in, tail_text}
+use Rattle.journal_audit.specs.Findings.{accepted_finding, audit_finding, beside, line_finding, plain_found, proposal_finding, proposal_found, questioned_finding, reply_found, served_finding, session_beside, tells_asked, tells_proposal, told_finding, unspelled, value_finding}
 use Rattle.journal_audit.specs.GateLines.{IsGateLineOf, IsSessionNumber, gate_piece, gate_tests}
-use Rattle.journal_audit.specs.Laws.{AuditedReply, IfBounded, IsAcceptedLineOf, IsAuditedLine, IsAuditedLineOf, IsProposedLineOf, IsServedLineOf, IsToldLineOf, OfAsked, OfGate, OfProposals, OfRun, OfServe, ServedReply, SoundLinesAreFoundSo}
+use Rattle.journal_audit.specs.Laws.{AuditedReply, IfBounded, IsAcceptedLineOf, IsAuditedLine, IsAuditedLineOf, IsProposedLineOf, IsQuestionLineOf, IsServedLineOf, IsToldLineOf, OfAsked, OfGate, OfProposals, OfQuestion, OfRun, OfServe, ServedReply, SoundLinesAreFoundSo}
 use Rattle.journal_audit.proofs.AuditSays.{IsHeard, line_heard}
 use Rattle.journal_audit.proofs.GateTaken.{gate_plain, gate_reads, gate_written}
 use Rattle.journal_audit.proofs.ServedLines.{read_value}
@@ -89,49 +89,51 @@ proposal_sound (Barred bar) h = refl
 
 -- ---- values of lines that are none of a run
 
--- no line of a run, no reply to a message, no line of a gate
+-- no line of a run, no reply to a message or a question, no line of a gate
 record IsBeside (d : Data) : Type 0 where
   shape : run_tests.has_shape d ≡ false
   accepted : is_accepted d ≡ false
+  questioned : is_questioned d ≡ false
   gate : bytes_eq (word_at (codes "reply") d) (codes "gate") ≡ false
 
 -- a line of the gate
 record IsOfGate (d : Data) : Type 0 where
   shape : run_tests.has_shape d ≡ false
   accepted : is_accepted d ≡ false
+  questioned : is_questioned d ≡ false
   gate : bytes_eq (word_at (codes "reply") d) (codes "gate") ≡ true
 
 proposal_beside : (line : ℕ) (reply : ProposalReply) → IsBeside (piece_data (proposal_piece line reply))
-proposal_beside line (Book market batch) = record { shape = refl; accepted = refl; gate = refl }
-proposal_beside line (Positions account market positions) = record { shape = refl; accepted = refl; gate = refl }
-proposal_beside line (Proposed market surplus bound best_surplus least_bound) = record { shape = refl; accepted = refl; gate = refl }
-proposal_beside line (BoundedReply number market batch outcome) = record { shape = refl; accepted = refl; gate = refl }
-proposal_beside line Stale = record { shape = refl; accepted = refl; gate = refl }
-proposal_beside line (Unproved f) = record { shape = refl; accepted = refl; gate = refl }
-proposal_beside line (Closed market orders) = record { shape = refl; accepted = refl; gate = refl }
-proposal_beside line (Reopened market) = record { shape = refl; accepted = refl; gate = refl }
-proposal_beside line MarketIsClosed = record { shape = refl; accepted = refl; gate = refl }
-proposal_beside line MarketIsOpen = record { shape = refl; accepted = refl; gate = refl }
-proposal_beside line (Account (Secured account amount)) = record { shape = refl; accepted = refl; gate = refl }
-proposal_beside line (Account (Needs needed)) = record { shape = refl; accepted = refl; gate = refl }
-proposal_beside line (Account (Uncovered n)) = record { shape = refl; accepted = refl; gate = refl }
-proposal_beside line (Tried market trial) = record { shape = refl; accepted = refl; gate = refl }
-proposal_beside line (Barred NotAllowed) = record { shape = refl; accepted = refl; gate = refl }
-proposal_beside line (Barred NotAsked) = record { shape = refl; accepted = refl; gate = refl }
-proposal_beside line (Barred OverQuota) = record { shape = refl; accepted = refl; gate = refl }
+proposal_beside line (Book market batch) = record { shape = refl; accepted = refl; questioned = refl; gate = refl }
+proposal_beside line (Positions account market positions) = record { shape = refl; accepted = refl; questioned = refl; gate = refl }
+proposal_beside line (Proposed market surplus bound best_surplus least_bound) = record { shape = refl; accepted = refl; questioned = refl; gate = refl }
+proposal_beside line (BoundedReply number market batch outcome) = record { shape = refl; accepted = refl; questioned = refl; gate = refl }
+proposal_beside line Stale = record { shape = refl; accepted = refl; questioned = refl; gate = refl }
+proposal_beside line (Unproved f) = record { shape = refl; accepted = refl; questioned = refl; gate = refl }
+proposal_beside line (Closed market orders) = record { shape = refl; accepted = refl; questioned = refl; gate = refl }
+proposal_beside line (Reopened market) = record { shape = refl; accepted = refl; questioned = refl; gate = refl }
+proposal_beside line MarketIsClosed = record { shape = refl; accepted = refl; questioned = refl; gate = refl }
+proposal_beside line MarketIsOpen = record { shape = refl; accepted = refl; questioned = refl; gate = refl }
+proposal_beside line (Account (Secured account amount)) = record { shape = refl; accepted = refl; questioned = refl; gate = refl }
+proposal_beside line (Account (Needs needed)) = record { shape = refl; accepted = refl; questioned = refl; gate = refl }
+proposal_beside line (Account (Uncovered n)) = record { shape = refl; accepted = refl; questioned = refl; gate = refl }
+proposal_beside line (Tried market trial) = record { shape = refl; accepted = refl; questioned = refl; gate = refl }
+proposal_beside line (Barred NotAllowed) = record { shape = refl; accepted = refl; questioned = refl; gate = refl }
+proposal_beside line (Barred NotAsked) = record { shape = refl; accepted = refl; questioned = refl; gate = refl }
+proposal_beside line (Barred OverQuota) = record { shape = refl; accepted = refl; questioned = refl; gate = refl }
 
 asked_beside : (line : ℕ) (reply : AskedReply) → IsBeside (piece_data (asked_piece line reply))
-asked_beside line (Quoted market bid ask) = record { shape = refl; accepted = refl; gate = refl }
-asked_beside line (Priced market quantity ask bid) = record { shape = refl; accepted = refl; gate = refl }
-asked_beside line (Margin account market (told.Least liability at)) = record { shape = refl; accepted = refl; gate = refl }
-asked_beside line (Margin account market (told.Unbounded ray)) = record { shape = refl; accepted = refl; gate = refl }
-asked_beside line (Margin account market told.Wide) = record { shape = refl; accepted = refl; gate = refl }
-asked_beside line (Margin account market told.Budget) = record { shape = refl; accepted = refl; gate = refl }
+asked_beside line (Quoted market bid ask) = record { shape = refl; accepted = refl; questioned = refl; gate = refl }
+asked_beside line (Priced market quantity ask bid) = record { shape = refl; accepted = refl; questioned = refl; gate = refl }
+asked_beside line (Margin account market (told.Least liability at)) = record { shape = refl; accepted = refl; questioned = refl; gate = refl }
+asked_beside line (Margin account market (told.Unbounded ray)) = record { shape = refl; accepted = refl; questioned = refl; gate = refl }
+asked_beside line (Margin account market told.Wide) = record { shape = refl; accepted = refl; questioned = refl; gate = refl }
+asked_beside line (Margin account market told.Budget) = record { shape = refl; accepted = refl; questioned = refl; gate = refl }
 
 gate_beside : (line : ℕ) (refused : GateLine) → IsOfGate (piece_data (gate_piece line refused))
-gate_beside line Malformed = record { shape = refl; accepted = refl; gate = refl }
-gate_beside line (Sessions session) = record { shape = refl; accepted = refl; gate = refl }
-gate_beside line (Expecting session expected why) = record { shape = refl; accepted = refl; gate = refl }
+gate_beside line Malformed = record { shape = refl; accepted = refl; questioned = refl; gate = refl }
+gate_beside line (Sessions session) = record { shape = refl; accepted = refl; questioned = refl; gate = refl }
+gate_beside line (Expecting session expected why) = record { shape = refl; accepted = refl; questioned = refl; gate = refl }
 
 module _ (text : List ℕ) (d : Data) (json : json_of text ≡ Some d) where
   no_run : run_tests.has_shape d ≡ false → reading text ≡ Err Shape
@@ -145,7 +147,7 @@ module _ (text : List ℕ) (d : Data) (json : json_of text ≡ Some d) where
   by_value : IsBeside d → IsFoundAs (value_finding text Shape (word_at (codes "reply") d) d)
   by_value h = record {
     served = ap (told_finding text) (no_run h.shape) ∙ ap (beside text Shape) json;
-    heard = ap (line_finding text) (no_run h.shape) ∙ ap (session_beside text Shape) json ∙ rw (h.accepted, h.gate) refl;
+    heard = ap (line_finding text) (no_run h.shape) ∙ ap (session_beside text Shape) json ∙ rw (h.accepted, h.questioned, h.gate) refl;
   }
 
   value_is : {A : Type 0} (tests : Tests A) (a : A) → read_by tests text ≡ Ok a → value_by tests text d ≡ Ok a
@@ -339,7 +341,7 @@ gate_found_sound text line refused h =
     let found : value_by gate_tests text d ≡ Ok (line, refused) = value_is text d json gate_tests (line, refused) (ap (read_by gate_tests) h.1 ∙ gate_reads line refused h.0) in
     ap (λ r. fault_in (line_finding text r)) (no_run text d json none.shape)
     ∙ ap (λ o. fault_in (session_beside text Shape o)) json
-    ∙ rw (none.accepted, none.gate) (ap (λ r. fault_in (plain_found r)) found)
+    ∙ rw (none.accepted, none.questioned, none.gate) (ap (λ r. fault_in (plain_found r)) found)
 
 -- ---- replies to accepted messages
 
@@ -405,11 +407,50 @@ accepted_found text reply h =
     ap fault_in (accepted_heard h.number h.session h.message.0 h.message.1 inner.piece inner.is_object inner.plain inner.levels text e)
     ∙ unspelled_sound (served_finding (piece_text inner.piece)) (subst (λ t. IsNoFault (served_finding t)) inner.print inner.served)
 
+-- ---- replies to questions
+
+-- the object of such a line
+abbrev question_piece : ℕ → Piece → Piece
+question_piece session p =
+    object (field (codes "of") p (field (codes "reply") (words (codes "asked")) (field (codes "session") (natural session) no_fields)))
+
+module _ (session : ℕ) (s : IsSessionNumber session) (p : Piece) (is : IsObject p) (plain : HasPlainTexts p) (levels : IsWritten 6 p) where
+  question_json : json_of (piece_text (question_piece session p)) ≡ Some (piece_data (question_piece session p))
+  question_json =
+      let written : IsWritten 7 (question_piece session p) = (refl, (refl, levels, (refl, refl, (refl, short session (omega arith), tt)))) in
+      rw (utf8-piece 7 (question_piece session p) written)
+      (read-piece 7 (question_piece session p) (refl, plain, (refl, refl, (refl, tt, tt))) written (omega arith))
+
+  question_is : is_questioned (piece_data (question_piece session p)) ≡ true
+  question_is = rw (object_data p is) refl
+
+  question_within : (text : List ℕ) → text ≡ question_line session (piece_text p) → question_in text session ≡ Some (piece_text p)
+  question_within text e =
+      ap (λ l. option_and_then if_braced (between (codes "{\"of\":") (question_tail session) l)) e
+      ∙ ap (option_and_then if_braced) (enclosed (codes "{\"of\":") (question_tail session) (piece_text p))
+      ∙ rw (object_braced p is) refl
+
+  question_heard : (text : List ℕ) → text ≡ question_line session (piece_text p) → audit_finding text ≡ unspelled (served_finding (piece_text p))
+  question_heard text e =
+      let d = piece_data (question_piece session p) in
+      let json : json_of text ≡ Some d = ap json_of e ∙ question_json in
+      ap (line_finding text) (no_run text d json refl)
+      ∙ ap (session_beside text Shape) json
+      ∙ rw question_is (ap (questioned_finding text) (natural_taken 1 MAX_SESSION session s) ∙ ap reply_found (question_within text e))
+
+question_found : (text : List ℕ) (reply : ServedReply) → IsQuestionLineOf text reply → IsNoFault (audit_finding text)
+question_found text reply h =
+    let inner = served_found h.inner reply h.served in
+    let e : text ≡ question_line h.session (piece_text inner.piece) = h.is_line ∙ ap (question_line h.session) inner.print in
+    ap fault_in (question_heard h.session h.is_session inner.piece inner.is_object inner.plain inner.levels text e)
+    ∙ unspelled_sound (served_finding (piece_text inner.piece)) (subst (λ t. IsNoFault (served_finding t)) inner.print inner.served)
+
 -- ---- all lines
 
 line_found : (text : List ℕ) (reply : AuditedReply) → IsAuditedLineOf text reply → IsNoFault (audit_finding text)
 line_found text (OfServe reply) (inl h) = (served_found text reply h).heard
 line_found text (OfServe reply) (inr h) = accepted_found text reply h
+line_found text (OfQuestion reply) h = question_found text reply h
 line_found text (OfGate refused) h = gate_found_sound text h.0 refused h.1
 
 line_of_found : (text : List ℕ) (f : Finding) → IsHeard text f → IsNoFault f → IsAuditedLine text

@@ -25,10 +25,10 @@ use Rattle.journal_audit.specs.declared.gate_lines.GateLine.{GateLine}
 use Rattle.journal_audit.specs.declared.gate_lines.GateLine.TheVariants.{Sessions, Expecting}
 use Rattle.journal_audit.specs.declared.gate_lines.Why.{Why}
 use Rattle.journal_audit.specs.declared.gate_lines.Why.TheVariants.{Old, Ahead, Changed}
-use Rattle.journal_audit.specs.Accepted.{accepted_line, before_end, between, if_braced, is_accepted, is_braced, message_from, reply_in, tail_text}
-use Rattle.journal_audit.specs.Findings.{accepted_finding, audit_finding, line_finding, plain_found, reply_found, served_finding, session_beside, unspelled, value_finding}
+use Rattle.journal_audit.specs.Accepted.{accepted_line, before_end, between, if_braced, is_accepted, is_braced, is_questioned, message_from, question_in, question_line, question_tail, reply_in, tail_text}
+use Rattle.journal_audit.specs.Findings.{accepted_finding, audit_finding, line_finding, plain_found, questioned_finding, reply_found, served_finding, session_beside, unspelled, value_finding}
 use Rattle.journal_audit.specs.GateLines.{IsExpected, IsGateWithin, IsSessionNumber, expecting_from, gate_by, gate_lines, gate_tests, session_at}
-use Rattle.journal_audit.specs.Laws.{AuditsSay, IsAuditedLineOf, IsFoundFaulty, OfGate, OfServe, audit_counts}
+use Rattle.journal_audit.specs.Laws.{AuditsSay, IsAuditedLineOf, IsFoundFaulty, OfGate, OfQuestion, OfServe, audit_counts}
 use Rattle.journal_audit.proofs.ServedLines.{IfSound, IsServedAs, IsSoundAs, fault_sound, read_value, run_sound, served_sound, sounder, value_sound}
 
 -- ---- lines of the gate
@@ -100,16 +100,26 @@ message_sound d =
     after (Between 1 MAX_MESSAGE) IsMessage _ _ (natural_sound 1 MAX_MESSAGE (codes "number") d)
     (λ number n. mapped IsSessionNumber IsMessage _ _ (natural_sound 1 MAX_SESSION (codes "session") d) (λ session s. (n, s)))
 
-module _ (text : List ℕ) (message : ℕ × ℕ) (m : IsMessage message) (reply : List ℕ) (stands_in : text ≡ accepted_line message.0 message.1 reply) where
-  accepted_as : (f : Finding) → IsServedAs reply f → IsAuditedAs text f
-  accepted_as f h = record {
-    reply = OfServe h.reply;
-    is_line = inr (record { number = message.0; session = message.1; inner = reply; message = m; served = h.is_line; is_line = stands_in });
-    batch = h.batch;
-    bounded = h.bounded;
-    optimal = h.optimal;
-  }
+accepted_as : (text : List ℕ) (message : ℕ × ℕ) → IsMessage message → (reply : List ℕ) → text ≡ accepted_line message.0 message.1 reply → (f : Finding) → IsServedAs reply f → IsAuditedAs text f
+accepted_as text message m reply stands_in f h = record {
+  reply = OfServe h.reply;
+  is_line = inr (record { number = message.0; session = message.1; inner = reply; message = m; served = h.is_line; is_line = stands_in });
+  batch = h.batch;
+  bounded = h.bounded;
+  optimal = h.optimal;
+}
 
+questioned_as : (text : List ℕ) (session : ℕ) → IsSessionNumber session → (reply : List ℕ) → text ≡ question_line session reply → (f : Finding) → IsServedAs reply f → IsAuditedAs text f
+questioned_as text session s reply stands_in f h = record {
+  reply = OfQuestion h.reply;
+  is_line = record { session = session; inner = reply; is_session = s; served = h.is_line; is_line = stands_in };
+  batch = h.batch;
+  bounded = h.bounded;
+  optimal = h.optimal;
+}
+
+-- a line counts as the reply inside it does
+module _ (text reply : List ℕ) (counted : (f : Finding) → IsServedAs reply f → IsAuditedAs text f) where
   spelled_sound : (f : Finding) → IsSoundAs reply f → IsHeard text (unspelled f)
   spelled_sound (Faulty reason.NotJson) h = tt
   spelled_sound (Faulty reason.Shape) h = tt
@@ -122,17 +132,32 @@ module _ (text : List ℕ) (message : ℕ × ℕ) (m : IsMessage message) (reply
   spelled_sound (Faulty reason.Measure) h = tt
   spelled_sound (Faulty reason.Bound) h = tt
   spelled_sound (Faulty reason.Wide) h = tt
-  spelled_sound (Cleared optimal) h = accepted_as (Cleared optimal) h
-  spelled_sound Bounded h = accepted_as Bounded h
-  spelled_sound Plain h = accepted_as Plain h
+  spelled_sound (Cleared optimal) h = counted (Cleared optimal) h
+  spelled_sound Bounded h = counted Bounded h
+  spelled_sound Plain h = counted Plain h
 
 reply_sound : (text : List ℕ) (message : ℕ × ℕ) → IsMessage message → (o : Option (List ℕ)) → Sound (λ reply. text ≡ accepted_line message.0 message.1 reply) o → IsHeard text (reply_found o)
 reply_sound text message m None h = tt
-reply_sound text message m (Some reply) h = spelled_sound text message m reply h (served_finding reply) (served_sound reply)
+reply_sound text message m (Some reply) h = spelled_sound text reply (accepted_as text message m reply h) (served_finding reply) (served_sound reply)
 
 accepted_sound : (text : List ℕ) (o : Option (ℕ × ℕ)) → Sound IsMessage o → IsHeard text (accepted_finding text o)
 accepted_sound text None h = tt
 accepted_sound text (Some message) h = reply_sound text message h (reply_in text message) (reply_stands text message)
+
+-- ---- replies to questions
+
+question_stands : (text : List ℕ) (session : ℕ) → Sound (λ reply. text ≡ question_line session reply) (question_in text session)
+question_stands text session =
+    let P = Stands (codes "{\"of\":") (question_tail session) text in
+    after P P if_braced (between (codes "{\"of\":") (question_tail session) text) (stands _ (codes "{\"of\":") (question_tail session) text refl) (λ reply h. braced P reply h)
+
+question_sound : (text : List ℕ) (session : ℕ) → IsSessionNumber session → (o : Option (List ℕ)) → Sound (λ reply. text ≡ question_line session reply) o → IsHeard text (reply_found o)
+question_sound text session s None h = tt
+question_sound text session s (Some reply) h = spelled_sound text reply (questioned_as text session s reply h) (served_finding reply) (served_sound reply)
+
+questioned_sound : (text : List ℕ) (o : Option ℕ) → Sound IsSessionNumber o → IsHeard text (questioned_finding text o)
+questioned_sound text None h = tt
+questioned_sound text (Some session) h = question_sound text session h (question_in text session) (question_stands text session)
 
 -- ---- all lines
 
@@ -142,17 +167,18 @@ as_line text f h = record { reply = OfServe h.reply; is_line = inl h.is_line; ba
 as_heard : (text : List ℕ) (f : Finding) → IsSoundAs text f → IsHeard text f
 as_heard text f h = sounder f (as_line text f) h
 
-by_kind : (text : List ℕ) (d : Data) (json : json_of text ≡ Some d) (a b : Bool) (f : LineFault) (word : List ℕ) → (f ≡ Memory → ⊥)
-    → IsHeard text (if a then accepted_finding text (message_from d) else if b then plain_found (value_by gate_tests text d) else value_finding text f word d)
-by_kind text d json true b f word some = accepted_sound text (message_from d) (message_sound d)
-by_kind text d json false true f word some = gate_read text d json (value_by gate_tests text d) refl
-by_kind text d json false false f word some = as_heard text (value_finding text f word d) (value_sound text d json f word some)
+by_kind : (text : List ℕ) (d : Data) (json : json_of text ≡ Some d) (a q b : Bool) (f : LineFault) (word : List ℕ) → (f ≡ Memory → ⊥)
+    → IsHeard text (if a then accepted_finding text (message_from d) else if q then questioned_finding text (session_at d) else if b then plain_found (value_by gate_tests text d) else value_finding text f word d)
+by_kind text d json true q b f word some = accepted_sound text (message_from d) (message_sound d)
+by_kind text d json false true b f word some = questioned_sound text (session_at d) (natural_sound 1 MAX_SESSION (codes "session") d)
+by_kind text d json false false true f word some = gate_read text d json (value_by gate_tests text d) refl
+by_kind text d json false false false f word some = as_heard text (value_finding text f word d) (value_sound text d json f word some)
 
 beside_sound : (text : List ℕ) (f : LineFault) (value : Option Data) → json_of text ≡ value → (f ≡ Memory → ⊥) → IsHeard text (session_beside text f value)
 beside_sound text f None json some = fault_heard text f some
 beside_sound text f (Some d) json some =
     let word = word_at (codes "reply") d in
-    by_kind text d json (is_accepted d) (bytes_eq word (codes "gate")) f word some
+    by_kind text d json (is_accepted d) (is_questioned d) (bytes_eq word (codes "gate")) f word some
 
 line_sound : (text : List ℕ) (read : LineRead) → reading text ≡ read → IsHeard text (line_finding text read)
 line_sound text (Ok pair) e = as_heard text (reply_finding pair.1) (run_sound text (reply_finding pair.1) (ap read_finding e))

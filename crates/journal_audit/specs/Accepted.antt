@@ -1,11 +1,11 @@
--- Lines that tell the reply to an accepted message.
+-- Lines that tell the reply to an accepted message, or to a question.
 use Rattle.std.specs.Prelude.{ℕ, ◌-◌, ◌++◌, ◌∷◌, [], List, length, take, drop, Bool, false, ◌&&◌, ◌==◌, Option, Some, None, option_map, option_and_then, is_some, codes, decimal, if◌then◌else◌}
 use Rattle.std.specs.Str.{bytes_eq}
 use Rattle.serde_json.specs.Data.{Data}
 use Rattle.serde_json.specs.Find.{as_object}
 use Rattle.limits.specs.declared.TheConstants.{MAX_SESSION, MAX_MESSAGE}
 use Rattle.session_gate.specs.Heads.{accepted_head}
-use Rattle.reply_print.specs.Look.{has_members, has_at, is_whole}
+use Rattle.reply_print.specs.Look.{has_members, has_at, is_whole, is_word}
 use Rattle.reply_text.specs.Taking.{natural_at}
 
 -- behind the reply
@@ -16,6 +16,14 @@ tail_text session = codes ",\"session\":" ++ (decimal session ++ codes "}")
 abbrev pub accepted_line : ℕ → ℕ → List ℕ → List ℕ
 accepted_line number session reply = accepted_head number ++ (reply ++ tail_text session)
 
+-- behind the reply to a question
+abbrev pub question_tail : ℕ → List ℕ
+question_tail session = codes ",\"reply\":\"asked\",\"session\":" ++ (decimal session ++ codes "}")
+
+-- the line of the reply to a question of this session, without its line feed
+abbrev pub question_line : ℕ → List ℕ → List ℕ
+question_line session reply = codes "{\"of\":" ++ (reply ++ question_tail session)
+
 -- ---- as they are read
 
 abbrev pub is_object : Data → Bool
@@ -25,6 +33,11 @@ is_object d = is_some (as_object d)
 abbrev pub is_accepted : Data → Bool
 is_accepted d =
     has_members 3 d && (has_at (codes "number") is_whole d && (has_at (codes "of") is_object d && has_at (codes "session") is_whole d))
+
+-- the value of one that tells the reply to a question
+abbrev pub is_questioned : Data → Bool
+is_questioned d =
+    has_members 3 d && (has_at (codes "of") is_object d && (has_at (codes "reply") (is_word (codes "asked")) d && has_at (codes "session") is_whole d))
 
 -- the numbers of the message and of its session, within their ranges
 abbrev pub message_from : Data → Option (ℕ × ℕ)
@@ -50,3 +63,7 @@ if_braced text = if is_braced text then Some text else None
 -- the text of the reply to a message, where the line is spelled as such a line is
 abbrev pub reply_in : List ℕ → ℕ × ℕ → Option (List ℕ)
 reply_in text message = option_and_then if_braced (between (accepted_head message.0) (tail_text message.1) text)
+
+-- the text of the reply to a question of the session, likewise
+abbrev pub question_in : List ℕ → ℕ → Option (List ℕ)
+question_in text session = option_and_then if_braced (between (codes "{\"of\":") (question_tail session) text)

@@ -20,8 +20,8 @@ use Rattle.journal_check.specs.declared.reports.Reason.TheVariants as reason
 use Rattle.journal_check.specs.Findings.{bounded_finding, fault_finding, reply_finding}
 use Rattle.journal_check.specs.Reports.{report_by}
 use Rattle.journal_check.specs.declared.reports.Report.{Report}
-use Rattle.journal_audit.specs.Accepted.{is_accepted, message_from, reply_in}
-use Rattle.journal_audit.specs.GateLines.{gate_tests}
+use Rattle.journal_audit.specs.Accepted.{is_accepted, is_questioned, message_from, question_in, reply_in}
+use Rattle.journal_audit.specs.GateLines.{gate_tests, session_at}
 
 -- ---- lines beside those of a run
 
@@ -96,9 +96,15 @@ abbrev pub accepted_finding : List ℕ → Option (ℕ × ℕ) → Finding
 accepted_finding text None = Faulty Range
 accepted_finding text (Some message) = reply_found (reply_in text message)
 
+-- the reply to a question of this session
+abbrev pub questioned_finding : List ℕ → Option ℕ → Finding
+questioned_finding text None = Faulty Range
+questioned_finding text (Some session) = reply_found (question_in text session)
+
 abbrev pub session_value_finding : List ℕ → LineFault → List ℕ → Data → Finding
 session_value_finding text f word d =
     if is_accepted d then accepted_finding text (message_from d)
+    else if is_questioned d then questioned_finding text (session_at d)
     else if bytes_eq word (codes "gate") then plain_found (value_by gate_tests text d)
     else value_finding text f word d
 

@@ -23,7 +23,7 @@ use Rattle.journal_check.specs.Findings.{fault_in}
 use Rattle.journal_check.specs.JournalLines.{lines_of}
 use Rattle.journal_check.specs.Laws.{Counts, IsSomeLine, IsSoundLineOf, SaysBy, clears, clears_optimal}
 use Rattle.journal_audit.specs.declared.gate_lines.GateLine.{GateLine}
-use Rattle.journal_audit.specs.Accepted.{accepted_line}
+use Rattle.journal_audit.specs.Accepted.{accepted_line, question_line}
 use Rattle.journal_audit.specs.Findings.{audit_finding, audit_of}
 use Rattle.journal_audit.specs.GateLines.{IsGateLineOf, IsSessionNumber}
 
@@ -77,14 +77,24 @@ pub record IsAcceptedLineOf (text : List ℕ) (reply : ServedReply) : Type 0 whe
   pub served : IsServedLineOf inner reply
   pub is_line : text ≡ accepted_line number session inner
 
--- what is answered to a line or a message
+-- the line of the reply to a question
+pub record IsQuestionLineOf (text : List ℕ) (reply : ServedReply) : Type 0 where
+  pub session : ℕ
+  pub inner : List ℕ
+  pub is_session : IsSessionNumber session
+  pub served : IsServedLineOf inner reply
+  pub is_line : text ≡ question_line session inner
+
+-- what is answered to a line, a message or a question
 pub data AuditedReply : Type 0 where
   OfServe : ServedReply → AuditedReply
+  OfQuestion : ServedReply → AuditedReply
   OfGate : GateLine → AuditedReply
 
 -- a sound line of `serve` or of `serve sessions`
 abbrev pub IsAuditedLineOf : List ℕ → AuditedReply → Type 0
 IsAuditedLineOf text (OfServe reply) = IsServedLineOf text reply ⊎ IsAcceptedLineOf text reply
+IsAuditedLineOf text (OfQuestion reply) = IsQuestionLineOf text reply
 IsAuditedLineOf text (OfGate refused) = IsGateLineFor text refused
 
 abbrev pub IsAuditedLine : List ℕ → Type 0
@@ -117,6 +127,7 @@ served_counts = record { batch = serve_clears; bounded = serve_bounds; optimal =
 -- as its reply does, where there is one
 abbrev pub as_served : (ServedReply → Bool) → AuditedReply → Bool
 as_served counts (OfServe reply) = counts reply
+as_served counts (OfQuestion reply) = counts reply
 as_served counts (OfGate refused) = false
 
 abbrev pub audit_counts : Counts AuditedReply

@@ -1,11 +1,11 @@
-// Lines that tell the reply to an accepted message, as they are read.
+// Lines that tell the reply to an accepted message, or to a question, as they are read.
 ghost use Rattle.std.specs.Prelude.{◌≡◌, IfOk, option_and_then, option_map, string_bytes};
 ghost use Rattle.serde_json.specs.View.{view};
 ghost use Rattle.session_gate.specs.Heads.{accepted_head};
-ghost use Rattle.journal_audit.specs.Accepted.{before_end, between, if_braced, is_accepted as accepted_is, is_braced as braced_is, is_object as object_is, message_from as message_found, reply_in as reply_found, tail_text};
+ghost use Rattle.journal_audit.specs.Accepted.{before_end, between, if_braced, is_accepted as accepted_is, is_braced as braced_is, is_object as object_is, is_questioned as questioned_is, message_from as message_found, question_in as question_found, question_tail as question_tail_is, reply_in as reply_found, tail_text};
 
 use limits::{MAX_MESSAGE, MAX_SESSION};
-use reply_print::look::{has_at, has_members, has_whole};
+use reply_print::look::{has_at, has_members, has_whole, has_word};
 use reply_text::taking::natural_at;
 use serde_json::Value;
 use std::alloc::{AllocError, Global};
@@ -23,6 +23,16 @@ pub(crate) fn is_accepted(value: &Value) -> bool
     has_members(value, 3)
         && has_whole(value, "number")
         && has_at(value, "of", is_object)
+        && has_whole(value, "session")
+}
+
+// Whether it is that of one that tells the reply to a question.
+pub(crate) fn is_questioned(value: &Value) -> bool
+    ensures { result ≡ questioned_is (view value.now) }
+{
+    has_members(value, 3)
+        && has_at(value, "of", is_object)
+        && has_word(value, "reply", "asked")
         && has_whole(value, "session")
 }
 
@@ -91,4 +101,22 @@ pub(crate) fn reply_in<'a>(
     let head = head(alloc, number)?;
     let tail = tail(alloc, session)?;
     Ok(if_braced(between(text, head.as_bytes(), tail.as_bytes())))
+}
+
+fn question_tail(alloc: Global, session: u32) -> Result<String, AllocError>
+    ensures { IfOk result (λ text. string_bytes text ≡ question_tail_is session) }
+{
+    format!(in alloc; ",\"reply\":\"asked\",\"session\":{session}}}")
+}
+
+// The text of the reply to a question of the session, where the line is spelled as such a line is.
+pub(crate) fn question_in(
+    alloc: Global,
+    text: &[u8],
+    session: u32,
+) -> Result<Option<&[u8]>, AllocError>
+    ensures { IfOk result (λ o. option_map (λ t. t.now) o ≡ question_found text.now session) }
+{
+    let tail = question_tail(alloc, session)?;
+    Ok(if_braced(between(text, "{\"of\":".as_bytes(), tail.as_bytes())))
 }

@@ -7,12 +7,12 @@ ghost use Rattle.journal_audit.specs.AskedValues.{asked_tests};
 ghost use Rattle.proposal_text.specs.ReplyValues.{proposal_tests};
 ghost use Rattle.proposal_text.specs.Within.{IsProposalReplyWithin};
 ghost use Rattle.journal_audit.specs.Accepted.{message_from as message_found};
-ghost use Rattle.journal_audit.specs.GateLines.{gate_tests};
-ghost use Rattle.journal_audit.specs.Findings.{accepted_finding as accepted_is, plain_found as plain_read, proposal_found as proposal_read, audit_finding as audit_is, beside as beside_is, is_served_refusal as served_refusal_is, is_served_word as served_word_is, proposal_finding as proposal_is, reply_found as reply_is, served_finding as served_is, session_beside as session_beside_is, session_value_finding as session_value_is, tells_asked as asked_is_told, tells_proposal as proposal_is_told, unspelled as unspelled_is, value_finding as value_is};
+ghost use Rattle.journal_audit.specs.GateLines.{gate_tests, session_at as session_found};
+ghost use Rattle.journal_audit.specs.Findings.{accepted_finding as accepted_is, plain_found as plain_read, proposal_found as proposal_read, audit_finding as audit_is, beside as beside_is, is_served_refusal as served_refusal_is, is_served_word as served_word_is, proposal_finding as proposal_is, questioned_finding as questioned_is, reply_found as reply_is, served_finding as served_is, session_beside as session_beside_is, session_value_finding as session_value_is, tells_asked as asked_is_told, tells_proposal as proposal_is_told, unspelled as unspelled_is, value_finding as value_is};
 
-use crate::accepted::{is_accepted, message_from, reply_in};
+use crate::accepted::{is_accepted, is_questioned, message_from, question_in, reply_in};
 use crate::asked_reading::read_asked_value;
-use crate::gate_reading::read_gate_value;
+use crate::gate_reading::{read_gate_value, session_at};
 use journal_check::findings::{bounded_finding, fault_finding, reply_finding};
 use journal_check::{Finding, Reason};
 use proposal_text::ProposalReply;
@@ -167,6 +167,16 @@ fn accepted_finding(alloc: Global, text: &[u8], value: &Value) -> Result<Finding
     }
 }
 
+// A line that tells the reply to a question.
+fn questioned_finding(alloc: Global, text: &[u8], value: &Value) -> Result<Finding, AllocError>
+    ensures { IfOk result (λ f. f ≡ questioned_is text.now (session_found (view value.now))) }
+{
+    match session_at(value) {
+        Some(session) => reply_found(alloc, question_in(alloc, text, session)?),
+        None => Ok(Finding::Faulty(Reason::Range)),
+    }
+}
+
 fn session_value_finding(
     alloc: Global,
     text: &[u8],
@@ -179,6 +189,8 @@ fn session_value_finding(
 {
     if is_accepted(value) {
         accepted_finding(alloc, text, value)
+    } else if is_questioned(value) {
+        questioned_finding(alloc, text, value)
     } else if word_at(value, "reply") == "gate" {
         gate_found(alloc, text, value)
     } else {

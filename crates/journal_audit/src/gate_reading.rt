@@ -139,7 +139,7 @@ fn has_shape(value: &Value, number: u64) -> bool
     }
 }
 
-fn session_at(value: &Value) -> Option<u32>
+pub(crate) fn session_at(value: &Value) -> Option<u32>
     ensures { result ≡ session_found (view value.now) }
 {
     let session = natural_at(value, 1, u64::from(MAX_SESSION), "session")?;
