@@ -49,13 +49,17 @@ class Follower:
 
     def wait(self, seconds: float) -> None:
         """Takes what comes in some seconds."""
-        until, answers = time.monotonic() + seconds, self.history.keys.answers
+        until = time.monotonic() + seconds
         while (left := until - time.monotonic()) > 0:
-            block = b"%d" % max(1, min(1000, int(left * 1000)))
-            self.store.say(
-                b"XREAD", b"COUNT", b"1", b"BLOCK", block, b"STREAMS", answers, self.history.since
-            )
-            self.read_on(True)
+            self.wait_for_more(left)
+
+    def wait_for_more(self, seconds: float) -> None:
+        """Takes what comes next, which is waited for some seconds, and one at most."""
+        block, answers = b"%d" % max(1, min(1000, int(seconds * 1000))), self.history.keys.answers
+        self.store.say(
+            b"XREAD", b"COUNT", b"1", b"BLOCK", block, b"STREAMS", answers, self.history.since
+        )
+        self.read_on(True)
 
     def state(self) -> State:
         """How the log is; Ended where entries were taken out."""

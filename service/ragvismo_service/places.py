@@ -63,13 +63,17 @@ class Place:
 @dataclasses.dataclass(frozen=True)
 class Keys:
     """The keys of an exchange: the stream of messages, that of answers, the sum of its program's
-    file, and what is written to see that another Redis has all."""
+    file, what is written to see that another Redis has all, the stream of books, and what is before
+    the session of a solver in the key of its proposals."""
 
     taken: bytes
     answers: bytes
     program: bytes
     copied: bytes
+    books: bytes
+    proposals: bytes
 
     @staticmethod
     def of(name: str) -> Keys:
-        return Keys(*(f"{name}:{key}".encode() for key in ("in", "out", "program", "copied")))
+        keys = "in", "out", "program", "copied", "books", "proposals/"
+        return Keys(*(f"{name}:{key}".encode() for key in keys))

@@ -1,19 +1,21 @@
 """Starts an exchange on this machine, for a first try: a Redis and a sequencer, until Ctrl-C.
 
-    service/up [FOLDER] [--port N] [--program FILE]
+    service/up [FOLDER] [--port N] [--program FILE] [--auction MARKET..]
 
 The log stands in FOLDER (ragvismo-log, if not given), so the next call with it goes on where this
 one ended. Redis listens on the loopback address alone, at port 6380 if not given, and writes each
 append to the disk before it tells of it. Its users are those of service/users, with their passwords
-in FOLDER. Redis and the sequencer end when this call does, whatever ended it; Redis holds the lock
-on FOLDER, so no other one writes there.
+in FOLDER. With --auction an auctioneer holds auctions of these markets, and a solver proposes. All
+end when this call does, whatever ended it; Redis holds the lock on FOLDER, so no other one writes
+there.
 
-It ends when Redis ends, or when the sequencer does with a status at which a person has to look,
+It ends when Redis ends, or when another of them does with a status at which a person has to look,
 which is told; or with
 """
 
 from __future__ import annotations
 
+import argparse
 import ctypes
 import dataclasses
 import logging
@@ -28,12 +30,14 @@ from collections.abc import Sequence
 from typing import BinaryIO
 
 from ragvismo_service import files, users
+from ragvismo_service.books import FIRST_SOLVER
 from ragvismo_service.places import Place
 from ragvismo_service.statuses import NOT_AGAIN, BadUse, Ended, Status, table
 from ragvismo_service.store import Store
-from ragvismo_service.words import Words, password, status_of, tool
+from ragvismo_service.words import Words, market, password, status_of, tool
 
-SEQUENCER = pathlib.Path(__file__).resolve().parents[1] / "sequencer"
+SERVICE = pathlib.Path(__file__).resolve().parents[1]
+Call = list[str | pathlib.Path]
 STATUSES = Status.BAD_USE, Status.NO_REDIS, Status.HELD, Status.FILE_FAULT
 # Of Linux: the signal that a process gets when the one that started it ends.
 PR_SET_PDEATHSIG = 1
@@ -99,26 +103,43 @@ def wait_for(server: subprocess.Popen[bytes], store: Store, folder: pathlib.Path
         raise Ended(Status.NO_REDIS, f"at {store.place} is another Redis")
 
 
-def keep_up(
-    server: subprocess.Popen[bytes], sequencer: list[str | pathlib.Path], folder: pathlib.Path
-) -> int:
-    """Starts the sequencer again whenever it ends, until that does not help, or Redis ends."""
-    running = started(sequencer)
+def keep_up(server: subprocess.Popen[bytes], calls: list[Call], folder: pathlib.Path) -> int:
+    """Starts each tool again whenever it ends, until that does not help, or Redis ends; what ends
+    with all done stays so."""
+    running = {pathlib.Path(call[0]).name: started(call) for call in calls}
     try:
         while server.poll() is None:
-            if running.poll() in NOT_AGAIN:
-                return running.returncode
-            if running.returncode is not None:
-                logging.info(
-                    "the sequencer ended with status %s and is started again", running.returncode
-                )
-                time.sleep(1)
-                running = started(sequencer)
+            for call, (name, process) in zip(calls, running.items()):
+                if process.poll() in NOT_AGAIN:
+                    return process.returncode
+                if process.returncode:
+                    logging.info(
+                        "the %s ended with status %s and is started again", name, process.returncode
+                    )
+                    time.sleep(1)
+                    running[name] = started(call)
             time.sleep(0.1)
     finally:
-        running.terminate()
-        running.wait()
+        for process in running.values():
+            process.terminate()
+        for process in running.values():
+            process.wait()
     raise ended(server, folder)
+
+
+def calls_of(given: argparse.Namespace, folder: pathlib.Path) -> list[Call]:
+    """The tools that are kept up."""
+    program = ["--program", given.program]
+    patience = ["--patience", str(given.patience)]
+
+    def call(tool: str, user: str, *more: str | pathlib.Path) -> Call:
+        return [SERVICE / tool, *words_of(user, given.port, folder), *patience, *more]
+
+    calls = [call("sequencer", "sequencer", *program)]
+    if given.auction:
+        calls.append(call("auctioneer", "auctioneer", *map(str, given.auction)))
+        calls.append(call("solver", f"solver-{FIRST_SOLVER}", *program, str(FIRST_SOLVER)))
+    return calls
 
 
 def words_of(user: str, place: Place, folder: pathlib.Path) -> list[str]:
@@ -149,6 +170,7 @@ def run() -> int:
     )
     words.add_argument("--port", type=port, default="6380", metavar="N")
     words.add_program()
+    words.add_argument("--auction", type=market, nargs="+", default=[], metavar="MARKET")
     given = words.parse_args()
     if not shutil.which("redis-server"):
         raise BadUse("redis-server is missing; tools/setup installs it")
@@ -167,10 +189,7 @@ def run() -> int:
             *words_of("gateway", given.port, given.folder),
             flush=True,
         )
-        more = ["--program", given.program, "--patience", str(given.patience)]
-        return keep_up(
-            server, [SEQUENCER, *words_of("sequencer", given.port, folder), *more], folder
-        )
+        return keep_up(server, calls_of(given, folder), folder)
     finally:
         server.terminate()
         server.wait()

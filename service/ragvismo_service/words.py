@@ -7,6 +7,7 @@ import dataclasses
 import logging
 import os
 import pathlib
+import re
 import sys
 from collections.abc import Callable
 from typing import NoReturn
@@ -39,6 +40,23 @@ def seconds(text: str) -> float:
     except ValueError:
         pass
     raise BadUse(f"{text} is no number of seconds above 0")
+
+
+def number_of(least: int, most: int, name: str) -> Callable[[str], int]:
+    """What reads a number in a range; it raises BadUse."""
+
+    def read(text: str) -> int:
+        if not re.fullmatch("0|[1-9][0-9]{0,8}", text) or not least <= int(text) <= most:
+            raise BadUse(f"{text} is no {name}: {least} to {most}")
+        return int(text)
+
+    return read
+
+
+market = number_of(1, 999_999_999, "market")
+# Those up to 9 are the operator's.
+operator_session = number_of(1, 9, "session of the operator's")
+solver_session = number_of(10, 999_999_999, "session of a solver")
 
 
 def password(path: str) -> str:
