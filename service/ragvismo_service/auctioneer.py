@@ -56,7 +56,7 @@ from ragvismo_service.words import (
 
 STATUSES = Status.BAD_USE, Status.NO_REDIS, Status.LOST, Status.CUT, Status.FORGED, Status.CHANGED
 # How long it waits for something new before it looks at the clock again, in seconds.
-PAUSE = 0.1
+PAUSE = 0.2
 # Why a line may be refused where another client was first.
 OTHERS_WERE_FIRST = "Old", "Ahead", "Changed", "Closed", "Open", "Settled"
 # What is said of a reply.

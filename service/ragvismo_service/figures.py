@@ -8,7 +8,7 @@ from collections.abc import Callable
 from typing import Any
 
 from ragvismo_service.chain import Answered
-from ragvismo_service.messages import answer_of
+from ragvismo_service.messages import answer_of, time_of
 from ragvismo_service.statuses import Ended, Status
 
 # What one exchange takes in its life, and how many orders of a market may be live.
@@ -45,6 +45,10 @@ class Figures:
         self.live: dict[int, str] = {}
         self.live_of: collections.Counter[str] = collections.Counter()
         self.sessions: set[int] = set()
+        # When each market was closed that is closed, and the entry that is taken was appended, in
+        # milliseconds since 1970 by the clock of Redis.
+        self.closed: dict[int, int] = {}
+        self.time = 0
         self.line = 0
         self.takes: dict[str, Callable[[Reply, list[str]], None]] = {
             "opened": self._count("accounts"),
@@ -54,6 +58,8 @@ class Figures:
             "cleared": self._clear,
             "settled": self._settle,
             "balance": self._balance,
+            "closed": self._close,
+            "reopened": self._open,
         }
 
     def take(self, answered: Answered) -> Reply | None:
@@ -74,7 +80,7 @@ class Figures:
         reply: Reply = answer["of"]
         if reply["line"] <= self.line:
             return None
-        self.line = reply["line"]
+        self.line, self.time = reply["line"], time_of(entry.id)
         self.sessions.add(answer["session"])
         self.used["sessions"] = len(self.sessions)
         self.used["messages_of_a_session"] = max(
@@ -107,13 +113,21 @@ class Figures:
         if market := self.live.pop(order, ""):
             self.live_of[market] -= 1
 
+    def _close(self, reply: Reply, _: list[str]) -> None:
+        self.closed[reply["market"]] = self.time
+
+    def _open(self, reply: Reply, _: list[str]) -> None:
+        self.closed.pop(reply["market"], None)
+
     def _clear(self, reply: Reply, _: list[str]) -> None:
+        self._open(reply, _)
         self.used["batches"] = reply["batch"]
         for order, fill in zip(reply["orders"], reply["fills"]):
             self._leave(order["order"])
             self.house -= cash_of(order, fill)
 
     def _settle(self, reply: Reply, _: list[str]) -> None:
+        self._open(reply, _)
         market = str(reply["market"])
         for order in [order for order, of in self.live.items() if of == market]:
             self._leave(order)

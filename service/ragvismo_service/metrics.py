@@ -5,9 +5,9 @@
 At http://HOST:PORT/metrics (127.0.0.1:9380, if not given) stand the entries, how many are not
 answered and how long the oldest has waited, the sequencers that are connected, replies, refusals by
 reason, clears by mark, the seconds from append to answer of all and of clears that came since this
-runs, live orders, the balance of the house, how much of each limit is used, and memory and copies
-of Redis. It reads the whole log, checks the chain of sums, and looks again every --every seconds
-(5). service/alerts.yml has rules that go with it.
+runs, live orders, the balance of the house, how long a market has been closed, how much of each
+limit is used, and memory and copies of Redis. It reads the whole log, checks the chain of sums, and
+looks again every --every seconds (5). service/alerts.yml has rules that go with it.
 
 It runs until it is stopped, or ends with one line on standard error and status
 """
@@ -40,6 +40,7 @@ GAUGES = {
     "sequencers": "Sequencers that are connected",
     "live_orders": "Orders that are live",
     "house_balance_ticks": "What the house has",
+    "longest_closed_seconds": "How long a market has been closed that was closed first",
     "redis_memory_bytes": "Memory that Redis uses",
     "redis_copies": "Copies that follow this Redis",
     "looked_timestamp_seconds": "When all this was looked at last",
@@ -99,6 +100,7 @@ class Metrics:
             "sequencers": state.sequencers,
             "live_orders": len(self.figures.live),
             "house_balance_ticks": self.figures.house,
+            "longest_closed_seconds": self.longest_closed(),
             "redis_memory_bytes": int(told["used_memory"]),
             "redis_copies": int(told["connected_slaves"]),
             "looked_timestamp_seconds": time.time(),
@@ -107,6 +109,11 @@ class Metrics:
             self.gauges[name].set(value)
         for limit, ratio in self.figures.ratios().items():
             self.limits.labels(limit).set(ratio)
+
+    def longest_closed(self) -> float:
+        """How long the market has been closed that was closed first, in seconds."""
+        times = self.figures.closed.values()
+        return max(0.0, time.time() - min(times) / 1000) if times else 0.0
 
 
 def run() -> None:

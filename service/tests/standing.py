@@ -55,6 +55,9 @@ for line, message in enumerate(sys.stdin.buffer, 1):
     sys.stdout.buffer.flush()
 """
 
+# A call that others sell in parts: what is charged leaves a surplus of 6/7.
+ORDERS = "buy,1,{0},call,10,6,1,1", "sell,2,{0},call,5,8,1,1", "sell,2,{0},call,12,4,1,1"
+
 
 class Given:
     """What the call of the tests says."""

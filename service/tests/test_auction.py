@@ -3,10 +3,10 @@ that was offered counts."""
 
 from __future__ import annotations
 
-import collections
+import contextlib
+import io
+import itertools
 import json
-import os
-import pathlib
 import re
 import subprocess
 import threading
@@ -14,16 +14,17 @@ import time
 from fractions import Fraction
 from typing import Any
 
+import redis
+
 from ragvismo_service.auctioneer import Auctioneer, Terms
 from ragvismo_service.books import FIRST_SOLVER
 from ragvismo_service.places import Place
 from ragvismo_service.statuses import Status
 from ragvismo_service.store import Store
-from tests.standing import HERE, Service
+from tests.standing import HERE, ORDERS, Given, Service
 
 OWN = 9
-# The butterfly, and two proposals for it: one that holds, one that fills all, and one that lies.
-ORDERS = "buy,1,{0},call,10,6,1,1", "sell,2,{0},call,5,8,1,1", "sell,2,{0},call,12,4,1,1"
+# Proposals for the orders of a market: one that holds, one that leaves the most, and one that lies.
 MEASURE = (
     '[{"state":["1","0"],"weight":"3/7"},{"state":["1","12"],"weight":"4/7"},'
     '{"state":["0","1"],"weight":"4"}]'
@@ -39,11 +40,12 @@ for line in sys.stdin:
         numbers = [order["order"] for order in book["orders"]]
         told = {"certificate": {"cover": "line", "measure": MEASURE}, "fills": FILLS,
                 "liability": "0", "orders": numbers, "surplus": "SURPLUS"}
-        print("propose,%d,%s" % (book["market"], json.dumps(told, separators=(",", ":"))), flush=True)
+        text = json.dumps(told, separators=(",", ":"))
+        print("propose,%d,%s" % (book["market"], text), flush=True)
 """
 # What is said in a market, a letter for each line.
 LETTERS = {"close": "c", "book": "b", "propose": "p", "clear": "C", "reopen": "o", "settle": "s"}
-WHOLE_AUCTIONS = re.compile("(c(o|bp*[Co]))*s?")
+AUCTIONS = re.compile("^(c(o|bp*C))*s$")
 
 
 class Killed(Exception):
@@ -64,7 +66,7 @@ class Mortal(Store):
         if self.writes == 0 and not self.is_after:
             raise Killed
         told = super().say(*words, kept=kept)
-        if self.writes == 0:
+        if self.writes == 0 and self.is_after:
             raise Killed
         return told
 
@@ -81,22 +83,25 @@ class Standing(Service):
         for line in ("open,1", "open,2", "deposit,1,100000"):
             self.trader.ask(line)
 
-    def list(self, market: int) -> None:
+    def list_market(self, market: int) -> None:
         """Lists a market, with the orders of the butterfly."""
         self.trader.ask(f"market,{market},1")
-        self.order(market)
+        self.place_orders(market)
 
-    def order(self, market: int) -> None:
+    def place_orders(self, market: int) -> None:
         for line in ORDERS:
             self.assertEqual(self.trader.ask(line.format(market))["reply"], "placed")
 
     def start(self, tool: str, *words: object) -> subprocess.Popen[str]:
-        """A tool that runs; what it says is in a file."""
-        with open(self.folder / f"{tool}.log", "a") as log:
-            call = [str(HERE / tool), *self.at, *map(str, words)]
-            process = subprocess.Popen(call, stdout=log, stderr=log, text=True)
+        """A tool that runs; what it prints and says is in files."""
+        call = [str(HERE / tool), *self.at, *map(str, words)]
+        with open(self.folder / "printed", "a") as out, open(self.folder / "said", "a") as log:
+            process = subprocess.Popen(call, stdout=out, stderr=log, text=True)
         self.sequencers.append(process)
         return process
+
+    def read(self, name: str) -> str:
+        return (self.folder / name).read_text()
 
     def auctioneer(self, *words: object) -> subprocess.Popen[str]:
         times = "--every", "0.2", "--solve", "1", "--budget", "1"
@@ -144,9 +149,8 @@ class Standing(Service):
 
 class Auction(Standing):
     def test_an_auction(self) -> None:
-        """The program is the solver; then there are no orders, then some are cancelled, then it is
-        settled."""
-        self.list(1)
+        """The program is the solver; then one order comes, and then the market is settled."""
+        self.list_market(1)
         self.start("solver", FIRST_SOLVER, "--program", self.program)
         auctioneer = self.auctioneer(1)
         self.until(lambda: bool(self.replies("cleared")))
@@ -156,18 +160,195 @@ class Auction(Standing):
         self.assertEqual(self.said_of(1), "cbpC")
         self.until(lambda: len(self.books()) == 2)
         book, result = self.books()
+        self.assertEqual((book["reply"], book["market"], result["reply"]), ("book", 1, "cleared"))
         self.assertEqual([order["account"] for order in book["orders"]], [1, 1, 1])
-        self.assertEqual({key: book[key] for key in ("market", "reply")}, {"market": 1, "reply": "book"})
         self.assertEqual((result["surplus"], result["orders"]), (cleared["surplus"], [1, 2, 3]))
-        self.assertLess(book["until"] - int(book["id"].split(b"-")[0]), 60_000)
+        self.assertEqual(json.loads(self.read("printed"))["surplus"], cleared["surplus"])
         time.sleep(0.5)
         self.assertEqual(self.said_of(1), "cbpC")
         self.assertTrue(self.is_open(1))
         self.until(lambda: len(self.replies("cleared")) == 2)
         ran = self.tool("auctioneer", 1, "--settle", "11")
         self.assertEqual((ran.returncode, auctioneer.wait(60)), (0, 0), ran.stderr)
-        self.assertRegex(self.said_of(1), "^(cbp*C)+s$")
+        self.assertRegex(self.said_of(1), "^cbpCcbp?Cs$")
 
-    def line_of_result(self) -> int:
-        lines = (self.folder / "auctioneer.log").read_text().splitlines()
-        return next(at for at, line in enumerate(lines) if line.startswith("{"))
+    def test_four_solvers(self) -> None:
+        """One is silent, one floods, one lies and one is good: what the good one offers counts, and
+        the audit says so."""
+        self.list_market(1)
+        self.start("solver", FIRST_SOLVER, "--solver", "sleep 1000")
+        self.start("solver", FIRST_SOLVER + 1, "--solver", "yes propose,1,")
+        self.solver(FIRST_SOLVER + 2, *LIE)
+        self.solver(FIRST_SOLVER + 3, *WHOLE)
+        self.solver(FIRST_SOLVER + 4, *HALF)
+        flood = Flood(self.redis, f"ragvismo:proposals/{FIRST_SOLVER + 5}")
+        flood.start()
+        self.addCleanup(flood.stop)
+        # They have started when each has its place in the stream.
+        time.sleep(1)
+        self.auctioneer(1, "--solve", "4")
+        self.until(lambda: bool(self.replies("cleared")))
+        [cleared] = self.replies("cleared")
+        self.assertEqual((cleared["surplus"], cleared["mark"]), (WHOLE[0], "bounded"))
+        offered = [it["surplus"] for it in self.replies("proposed")]
+        self.assertEqual(sorted(offered), [HALF[0], WHOLE[0]])
+        self.assertEqual({it["reason"] for it in self.replies("refused")}, {"Syntax", "Unproved"})
+        self.assertEqual(self.audited()["bounded"], 1)
+
+    def audited(self) -> dict[str, Any]:
+        """What the program says of all replies."""
+        replies = b"".join(answer + b"\n" for _, answer in self.published())
+        ran = subprocess.run([self.program, "audit"], input=replies, capture_output=True)
+        self.assertEqual(ran.returncode, 0, ran.stdout)
+        told: dict[str, Any] = json.loads(ran.stdout)
+        return told
+
+    def test_what_somebody_else_closed(self) -> None:
+        """It is left alone, and so is a market without orders, or that is not listed."""
+        self.list_market(1)
+        self.trader.ask("market,2,1")
+        other = self.session(1)
+        other.ask("close,1")
+        self.auctioneer(1, 2, 3)
+        time.sleep(3)
+        self.assertEqual((self.said_of(1), self.said_of(2)), ("", ""))
+        other.ask("reopen,1")
+        self.list_market(3)
+        self.until(lambda: len(self.replies("cleared")) == 2)
+        self.assertEqual([self.said_of(it) for it in (1, 2, 3)], ["cbC", "", "cbC"])
+
+    def test_orders_that_were_cancelled(self) -> None:
+        self.list_market(1)
+        for account, order in ((1, 1), (2, 2), (2, 3)):
+            self.trader.ask(f"cancel,{account},{order}")
+        self.auctioneer(1)
+        self.until(lambda: bool(self.replies("reopened")))
+        time.sleep(1)
+        self.assertEqual(self.said_of(1), "co")
+
+    def test_what_is_refused(self) -> None:
+        self.list_market(1)
+        for words, said in (
+            ((1, "--settle", "1,2"), "WeightCount"),
+            ((7, "--settle", "1"), "there is no market 7"),
+            ((1, 2, "--settle", "1"), "one market"),
+            ((0,), "is no market"),
+            ((1, "--session", 10), "is no session of the operator's"),
+        ):
+            ran = self.tool("auctioneer", *words)
+            self.assertEqual(ran.returncode, Status.BAD_USE, ran.stderr)
+            self.assertIn(said, ran.stderr.splitlines()[-1])
+
+
+class Flood(threading.Thread):
+    """A solver that writes without an end."""
+
+    def __init__(self, connection: redis.Redis, key: str) -> None:
+        super().__init__(daemon=True)
+        self.redis, self.key, self.is_stopped = connection, key, False
+
+    def run(self) -> None:
+        while not self.is_stopped:
+            books = self.redis.xrevrange("ragvismo:books", count=1)
+            for id in [id for id, _ in books] or [b"1-1"]:
+                self.redis.set(self.key, (id + b" propose,1,{}\n") * 1000 + b"x" * 1_000_000)
+
+    def stop(self) -> None:
+        self.is_stopped = True
+        self.join()
+
+
+class Kills(Standing):
+    """Auctioneers that are killed, and several at once."""
+
+    def life(self, market: int, writes: int, is_after: bool) -> bool:
+        """One auctioneer, which is killed at one of its writes; whether it lived to see its market
+        cleared, and told so."""
+        store = Mortal(self.place, writes, is_after)
+        terms = Terms((market,), every=100, solve=300, budget=1)
+        auctioneer = Auctioneer(store, terms)
+        try:
+            with contextlib.redirect_stdout(io.StringIO()):
+                auctioneer.begin()
+                while not self.is_told(market):
+                    auctioneer.turn()
+                    self.offer(market)
+        except Killed:
+            self.offer(market)
+            return False
+        return True
+
+    def is_told(self, market: int) -> bool:
+        return any(it["reply"] == "cleared" and it["market"] == market for it in self.books())
+
+    def offer(self, market: int) -> None:
+        """What two solvers offer as soon as they are told the book of a market."""
+        for book in self.books():
+            if (book["reply"], book["market"]) == ("book", market):
+                numbers = json.dumps([it["order"] for it in book["orders"]], separators=(",", ":"))
+                for session, (surplus, fills) in enumerate((HALF, WHOLE), FIRST_SOLVER):
+                    told = json.dumps(fills, separators=(",", ":"))
+                    proposal = (
+                        f'{{"certificate":{{"cover":"line","measure":{MEASURE}}},"fills":{told},'
+                        f'"liability":"0","orders":{numbers},"surplus":"{surplus}"}}'
+                    )
+                    text = f"{book['id'].decode()} propose,{market},{proposal}"
+                    self.redis.set(f"ragvismo:proposals/{session}", text)
+
+    def test_at_each_write(self) -> None:
+        """Killed before or after any line or news, it goes on: nothing is said or told twice, and
+        the market is open again."""
+        for market, (write, is_after) in enumerate(
+            itertools.product(range(1, 9), (False, True)), 1
+        ):
+            with self.subTest(write=write, is_after=is_after):
+                self.list_market(market)
+                lived = self.life(market, write, is_after)
+                self.assertEqual(lived, write == 8)
+                self.assertTrue(lived or self.life(market, 0, False))
+                self.assertEqual(self.said_of(market), "cbppC")
+                self.assertEqual(self.replies("cleared")[-1]["surplus"], WHOLE[0])
+                self.assertEqual(len(self.books()), 2 * market)
+                self.assertTrue(self.is_open(market))
+        own = [it for it in self.entries() if not it.text.startswith(b"12,")]
+        self.assertEqual(len(own), 5 * market)
+
+    def test_a_clear_that_is_refused(self) -> None:
+        """The market is opened again."""
+        self.list_market(1)
+        auctioneer = Auctioneer(
+            Store(self.place, 60, "test"), Terms((1,), every=100, solve=10, budget=0)
+        )
+        auctioneer.begin()
+        while not self.replies("reopened"):
+            auctioneer.turn()
+        self.assertEqual(self.said_of(1), "cbCo")
+
+    def test_two_that_are_killed(self) -> None:
+        """Two at once, one of which is killed and started again, do as one does."""
+        self.list_market(1)
+        self.list_market(2)
+        self.solver(FIRST_SOLVER, *WHOLE)
+        running = [self.auctioneer(1, 2, "--solve", "0.5") for _ in range(2)]
+        for _ in range(10 if Given.is_long else 3):
+            time.sleep(self.random.uniform(0.5, 2))
+            self.assertIsNone(running[0].poll())
+            running[0].kill()
+            running[0].wait()
+            running = [*running[1:], self.auctioneer(1, 2, "--solve", "0.5")]
+            for market in (1, 2):
+                self.place_if_open(market)
+        for market in (1, 2):
+            ran = self.tool("auctioneer", market, "--settle", "11", "--solve", "0.5")
+            self.assertEqual(ran.returncode, 0, ran.stderr)
+            self.assertRegex(self.said_of(market), AUCTIONS)
+        self.assertEqual([it.wait(60) for it in running], [0, 0])
+        self.until(self.all_answered)
+        self.assertEqual(self.published(), self.computed())
+        ids = [book["id"] for book in self.books()]
+        self.assertEqual(len(ids), len(set(ids)))
+
+    def place_if_open(self, market: int) -> None:
+        for line in ORDERS:
+            reply = self.trader.ask(line.format(market))
+            self.assertIn(reply.get("reason", ""), ("", "Closed"))

@@ -81,6 +81,13 @@ class Counted(unittest.TestCase):
         self.assertEqual((figures.house, figures.live), (4, {}))
         self.assertEqual(figures.used["live_orders_of_a_market"], 0)
 
+    def test_phases(self) -> None:
+        """When a market was closed, until it is open again."""
+        closed = "close,4", '{"line":10,"market":4,"orders":1,"reply":"closed"}'
+        reopened = "reopen,4", '{"line":11,"market":4,"reply":"reopened"}'
+        self.assertEqual(self.after(closed).closed, {4: 1})
+        self.assertEqual(self.after(closed, reopened).closed, {})
+
     def test_what_the_house_is_told_to_have(self) -> None:
         told = '{"account":0,"balance":"100","line":10,"reply":"balance","reserved":"0"}'
         self.assertEqual(self.after(("balance,0", told)).house, 100)
@@ -140,6 +147,7 @@ class Metrics(Service):
             ('ragvismo_refusals_total{reason="Ahead"}', 1),
             ('ragvismo_limit_used_ratio{limit="sessions"}', 1 / 10_000),
             ("ragvismo_live_orders", 0),
+            ("ragvismo_longest_closed_seconds", 0),
             ("ragvismo_house_balance_ticks", 0),
             ("ragvismo_redis_copies", 0),
         ):

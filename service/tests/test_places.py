@@ -20,7 +20,7 @@ from ragvismo_service.places import Place
 from ragvismo_service.statuses import BadUse, Status
 from ragvismo_service.store import Store
 from ragvismo_service.words import password
-from tests.standing import HERE, Service, free_port
+from tests.standing import HERE, ORDERS, Service, free_port
 
 REFUSED = "no permissions|can't run this|can't access|Authentication required"
 
@@ -189,6 +189,21 @@ class Users(Service):
                 ("XDEL", "ragvismo:in", "1-1"),
                 script,
             ),
+            "auctioneer": (
+                add_out,
+                script,
+                ("XTRIM", "ragvismo:in", "MAXLEN", "0"),
+                ("SET", "ragvismo:proposals/1000000", "1"),
+                ("GETRANGE", "ragvismo:program", "0", "1"),
+            ),
+            "solver-1000000": (
+                add_in,
+                ("XRANGE", "ragvismo:in", "-", "+"),
+                ("XADD", "ragvismo:books", "*", "reply", "1"),
+                ("SET", "ragvismo:proposals/1000001", "1"),
+                ("SET", "ragvismo:program", "1"),
+                ("GETRANGE", "ragvismo:proposals/1000000", "0", "1"),
+            ),
             "replica": (add_in, ("XRANGE", "ragvismo:in", "-", "+"), ("SHUTDOWN",)),
             "sentinel": (add_in, ("XRANGE", "ragvismo:in", "-", "+"), ("FLUSHALL",)),
             "default": (("PING",),),
@@ -203,6 +218,30 @@ class Users(Service):
                 ):
                     connected.execute_command(*command)
         self.assertEqual(len(self.redis.xrange("ragvismo:in")), 1)
+
+    def test_an_auction(self) -> None:
+        """The auctioneer and a solver do as these users what they must."""
+        if not self.is_real:
+            self.skipTest("./build has not made the program")
+        subprocess.run([HERE / "users", self.users, "--solver", "1000007"], check=True)
+        self.stop_redis()
+        self.start_redis()
+        at, program = f"unix://USER@{self.socket}", ["--program", str(self.program)]
+        times = ["--every", "0.1", "--solve", "2", "--budget", "1"]
+        for name, user, more in (
+            ("sequencer", "sequencer", program),
+            ("auctioneer", "auctioneer", [*times, "1"]),
+            ("solver", "solver-1000007", [*program, "1000007"]),
+        ):
+            words = [str(HERE / name), *self.words(user, at), *more]
+            out = subprocess.DEVNULL
+            self.sequencers.append(
+                subprocess.Popen(words, stdout=out, stderr=subprocess.PIPE, text=True)
+            )
+        session = Session(self.as_user("gateway"), 12, 1)
+        for line in ("open,1", "open,2", "deposit,1,100", "market,1,1", *ORDERS):
+            session.ask(line.format(1))
+        self.until(lambda: b'"mark":"bounded"' in b"".join(it for _, it in self.published()))
 
     def test_who_is_none_of_them(self) -> None:
         """A wrong password ends a tool at once."""

@@ -222,6 +222,10 @@ class Tools(Service):
             ["verify", "more"],
             ["rehearse", "/none"],
             ["client.py", "0"],
+            ["auctioneer"],
+            ["solver", "9"],
+            ["up", "--auction", "0"],
+            ["users"],
             ["up", "--port", "0"],
         )
         for words in calls:
@@ -259,9 +263,9 @@ class Up(unittest.TestCase):
         self.addCleanup(self.held.doCleanups)
         self.folder, self.program = self.held.folder / "log", self.held.program
 
-    def start(self) -> subprocess.Popen[str]:
+    def start(self, *more: str) -> subprocess.Popen[str]:
         """A call, which tells how it is spoken to."""
-        words = self.words(free_port())
+        words = [*self.words(free_port()), *more]
         up = subprocess.Popen(
             words,
             stdout=subprocess.PIPE,
@@ -306,6 +310,17 @@ class Up(unittest.TestCase):
             self.assertEqual(self.client("open,1\n")["line"], line)
             up.terminate()
             self.assertEqual(up.wait(), 128 + signal.SIGTERM)
+
+    def test_an_auctioneer_and_a_solver(self) -> None:
+        """They are started where auctions are asked for, and end with the call."""
+        up = self.start("--auction", "1", "2")
+        wanted = {f"ragvismo-{tool}/ragvismo" for tool in ("sequencer", "auctioneer", "solver")}
+        names = set[str]()
+        while not wanted <= names:
+            self.assertIsNone(up.poll())
+            names = {client["name"] for client in self.redis("watch").client_list()}
+        up.terminate()
+        self.assertEqual(up.wait(), 128 + signal.SIGTERM)
 
     def test_two_in_one_folder(self) -> None:
         """The second is refused; and a call that is killed takes its Redis with it, so that the
