@@ -134,11 +134,14 @@ class Auctioneer:
         self.asked = self.store.say(b"XADD", self.keys.taken, b"*", *fields)
         self.wait_for(self.asked)
         reply = self.answer.get("of", self.answer)
-        line, told = body[:40].decode(errors="replace"), [reply[it] for it in SAID if it in reply]
-        logging.info("session %s, %s: %s", session, line, ", ".join(map(str, told)))
+        # What a solver wrote is not shown.
+        line = body.decode() if session == self.terms.session else "its proposal"
+        told = ", ".join(str(reply[it]) for it in SAID if it in reply)
+        logging.info("session %s, %s: %s", session, line, told)
+        # After a clear that is refused the market is opened.
+        is_clear = body.startswith(b"clear,") and reply.get("reply") == "refused"
         reason = reply.get("reason", OTHERS_WERE_FIRST[0])
-        is_own = session == self.terms.session and not body.startswith(b"clear,")
-        if is_own and reason not in OTHERS_WERE_FIRST:
+        if session == self.terms.session and not is_clear and reason not in OTHERS_WERE_FIRST:
             raise BadUse(f"{line} of session {session} is refused: {reason}")
 
     def wait_for(self, id: bytes) -> None:

@@ -22,8 +22,8 @@ Reply = dict[str, Any]
 KEPT = 256
 # What of a cleared line is told; its batch stands whole in the log.
 TOLD = "batch", "bound", "fills", "line", "mark", "market", "reply", "surplus", "units"
-# A solver's proposals are not read where they have more bytes.
-MOST = 64 << 20
+# So many bytes of what a solver wrote are read.
+MOST = 32 << 20
 # Sessions up to this one are the operator's, and propose nothing here.
 LAST_OF_OPERATOR = 9
 FIRST_SOLVER = 1_000_000
@@ -97,11 +97,7 @@ class Books:
         """The line that a solver offers for a book; nothing where there is none, or a longer
         one."""
         key = b"%b%d" % (self.keys.proposals, session)
-        text: bytes = self.store.say(b"GETRANGE", key, b"0", b"%d" % MOST)
-        wanted = b"propose,%d," % market
-        for line in text.split(b"\n") if len(text) <= MOST else []:
-            of, _, offered = line.partition(b" ")
-            is_one = offered.startswith(wanted) and b"\r" not in offered
-            if of == id and is_one and len(offered) <= longest:
-                return offered
-        return b""
+        text = b"\n%b\n" % self.store.say(b"GETRANGE", key, b"0", b"%d" % MOST)
+        begin = text.find(b"\n%b propose,%d," % (id, market))
+        line = text[begin + len(id) + 2 : text.find(b"\n", begin + 1)]
+        return line if begin >= 0 and len(line) <= longest and b"\r" not in line else b""

@@ -17,7 +17,7 @@ from typing import Any
 import redis
 
 from ragvismo_service.auctioneer import Auctioneer, Terms
-from ragvismo_service.books import FIRST_SOLVER
+from ragvismo_service.books import FIRST_SOLVER, Books
 from ragvismo_service.places import Place
 from ragvismo_service.statuses import Status
 from ragvismo_service.store import Store
@@ -53,13 +53,17 @@ class Killed(Exception):
 
 
 class Mortal(Store):
-    """The connection of one that is killed at one of its writes, before it or after it."""
+    """The connection of one that is killed at one of its writes, before it or after it; some hours
+    are added to the clock."""
 
     def __init__(self, place: Place, writes: int, is_after: bool) -> None:
         super().__init__(place, 60, "test")
-        self.writes, self.is_after = writes, is_after
+        self.writes, self.is_after, self.hours = writes, is_after, 0
 
     def say(self, *words: bytes, kept: bool = False) -> Any:
+        if words[0] == b"TIME":
+            seconds, micros = super().say(*words, kept=kept)
+            return [b"%d" % (int(seconds) + 3600 * self.hours), micros]
         if words[0] != b"XADD":
             return super().say(*words, kept=kept)
         self.writes -= 1
@@ -92,6 +96,11 @@ class Standing(Service):
         for line in ORDERS:
             self.assertEqual(self.trader.ask(line.format(market))["reply"], "placed")
 
+    def place_if_open(self, market: int) -> None:
+        for line in ORDERS:
+            reply = self.trader.ask(line.format(market))
+            self.assertIn(reply.get("reason", ""), ("", "Closed"))
+
     def start(self, tool: str, *words: object) -> subprocess.Popen[str]:
         """A tool that runs; what it prints and says is in files."""
         call = [str(HERE / tool), *self.at, *map(str, words)]
@@ -104,8 +113,8 @@ class Standing(Service):
         return (self.folder / name).read_text()
 
     def auctioneer(self, *words: object) -> subprocess.Popen[str]:
-        times = "--every", "0.2", "--solve", "1", "--budget", "1"
-        return self.start("auctioneer", *words, *times)
+        times = "--every", "0.2", "--solve", "2", "--budget", "1"
+        return self.start("auctioneer", *times, *words)
 
     def solver(self, session: int, surplus: str, fills: list[str]) -> subprocess.Popen[str]:
         text = SOLVER.replace("MEASURE", MEASURE).replace("FILLS", json.dumps(fills))
@@ -119,7 +128,7 @@ class Standing(Service):
             told = json.loads(answer)
             if "of" in told and told["of"]["line"] > line:
                 line = told["of"]["line"]
-                body = entry.text.split(b",", 2)[2].decode()
+                body = entry.text.split(b",", 2)[2].decode(errors="replace")
                 found.append((told["session"], body, told["of"]))
         return found
 
@@ -128,11 +137,12 @@ class Standing(Service):
 
     def said_of(self, market: int) -> str:
         """What auctioneers said of a market, for themselves and for solvers, a letter for each
-        line that was not refused for its phase."""
+        line that was not refused since it came late."""
         lines = [
             body.split(",", 2)
             for session, body, reply in self.log()
-            if (session == OWN or session >= FIRST_SOLVER) and "Closed" != reply.get("reason")
+            if session in (OWN, *range(FIRST_SOLVER, FIRST_SOLVER + 10))
+            and reply.get("reason") not in ("Closed", "Stale")
         ]
         return "".join(LETTERS[word] for word, of, *_ in lines if int(of) == market)
 
@@ -143,6 +153,10 @@ class Standing(Service):
             for id, fields in self.redis.xrange("ragvismo:books")
         ]
 
+    def connected(self, tool: str) -> int:
+        names = [client["name"] for client in self.redis.client_list()]
+        return names.count(f"ragvismo-{tool}/ragvismo")
+
     def is_open(self, market: int) -> bool:
         return bool(self.trader.ask(ORDERS[0].format(market))["reply"] == "placed")
 
@@ -152,7 +166,8 @@ class Auction(Standing):
         """The program is the solver; then one order comes, and then the market is settled."""
         self.list_market(1)
         self.start("solver", FIRST_SOLVER, "--program", self.program)
-        auctioneer = self.auctioneer(1)
+        self.until(lambda: self.connected("solver") == 1)
+        auctioneer = self.auctioneer(1, "--solve", "5")
         self.until(lambda: bool(self.replies("cleared")))
         [cleared] = self.replies("cleared")
         self.assertEqual((cleared["mark"], cleared["run"]), ("bounded", "budget"))
@@ -181,12 +196,11 @@ class Auction(Standing):
         self.solver(FIRST_SOLVER + 2, *LIE)
         self.solver(FIRST_SOLVER + 3, *WHOLE)
         self.solver(FIRST_SOLVER + 4, *HALF)
+        self.until(lambda: self.connected("solver") == 5, 600)
         flood = Flood(self.redis, f"ragvismo:proposals/{FIRST_SOLVER + 5}")
         flood.start()
         self.addCleanup(flood.stop)
-        # They have started when each has its place in the stream.
-        time.sleep(1)
-        self.auctioneer(1, "--solve", "4")
+        self.auctioneer(1, "--solve", "8")
         self.until(lambda: bool(self.replies("cleared")))
         [cleared] = self.replies("cleared")
         self.assertEqual((cleared["surplus"], cleared["mark"]), (WHOLE[0], "bounded"))
@@ -203,6 +217,18 @@ class Auction(Standing):
         told: dict[str, Any] = json.loads(ran.stdout)
         return told
 
+    def test_the_solvers_of_an_exchange(self) -> None:
+        """Of one whose name is a pattern, and whose keys others match."""
+        for name in ("a[b]*", "ab1", "a[b]*x"):
+            for session in ("7", "1000000", "01", "x", "9999999999"):
+                self.redis.set(f"{name}:proposals/{session}", "1-1 propose,1,{}\n1-2 propose,1,")
+        books = Books(Store(Place(port=self.port, name="a[b]*"), 60, "test"))
+        self.assertEqual(books.solvers(), [1000000])
+        self.assertEqual(books.offer(1000000, b"1-1", 1, 100), b"propose,1,{}")
+        for id, market, longest in ((b"1-3", 1, 100), (b"1-1", 2, 100), (b"1-1", 1, 11)):
+            self.assertEqual(books.offer(1000000, id, market, longest), b"")
+        self.assertEqual(books.offer(1000001, b"1-1", 1, 100), b"")
+
     def test_what_somebody_else_closed(self) -> None:
         """It is left alone, and so is a market without orders, or that is not listed."""
         self.list_market(1)
@@ -213,9 +239,10 @@ class Auction(Standing):
         time.sleep(3)
         self.assertEqual((self.said_of(1), self.said_of(2)), ("", ""))
         other.ask("reopen,1")
-        self.list_market(3)
-        self.until(lambda: len(self.replies("cleared")) == 2)
-        self.assertEqual([self.said_of(it) for it in (1, 2, 3)], ["cbC", "", "cbC"])
+        self.trader.ask("market,3,1")
+        self.place_if_open(3)
+        self.until(lambda: {it["market"] for it in self.replies("cleared")} == {1, 3})
+        self.assertEqual((self.said_of(1), self.said_of(2)), ("cbC", ""))
 
     def test_orders_that_were_cancelled(self) -> None:
         self.list_market(1)
@@ -251,7 +278,9 @@ class Flood(threading.Thread):
         while not self.is_stopped:
             books = self.redis.xrevrange("ragvismo:books", count=1)
             for id in [id for id, _ in books] or [b"1-1"]:
-                self.redis.set(self.key, (id + b" propose,1,{}\n") * 1000 + b"x" * 1_000_000)
+                self.redis.set(
+                    self.key, (id + b" propose,1,\xff\x1b{}\n") * 1000 + b"x" * 1_000_000
+                )
 
     def stop(self) -> None:
         self.is_stopped = True
@@ -265,35 +294,36 @@ class Kills(Standing):
         """One auctioneer, which is killed at one of its writes; whether it lived to see its market
         cleared, and told so."""
         store = Mortal(self.place, writes, is_after)
-        terms = Terms((market,), every=100, solve=300, budget=1)
-        auctioneer = Auctioneer(store, terms)
+        auctioneer = Auctioneer(store, Terms((market,), every=0, solve=3_600_000, budget=1))
         try:
             with contextlib.redirect_stdout(io.StringIO()):
                 auctioneer.begin()
                 while not self.is_told(market):
+                    # When solvers have offered, the time is over.
+                    store.hours = 2 * self.offer(market)
                     auctioneer.turn()
-                    self.offer(market)
         except Killed:
-            self.offer(market)
             return False
         return True
 
     def is_told(self, market: int) -> bool:
         return any(it["reply"] == "cleared" and it["market"] == market for it in self.books())
 
-    def offer(self, market: int) -> None:
-        """What two solvers offer as soon as they are told the book of a market."""
-        for book in self.books():
-            if (book["reply"], book["market"]) == ("book", market):
-                numbers = json.dumps([it["order"] for it in book["orders"]], separators=(",", ":"))
-                for session, (surplus, fills) in enumerate((HALF, WHOLE), FIRST_SOLVER):
-                    told = json.dumps(fills, separators=(",", ":"))
-                    proposal = (
-                        f'{{"certificate":{{"cover":"line","measure":{MEASURE}}},"fills":{told},'
-                        f'"liability":"0","orders":{numbers},"surplus":"{surplus}"}}'
-                    )
-                    text = f"{book['id'].decode()} propose,{market},{proposal}"
-                    self.redis.set(f"ragvismo:proposals/{session}", text)
+    def offer(self, market: int) -> bool:
+        """Has two solvers offer as soon as they are told the book of a market; whether they were
+        told."""
+        found = [it for it in self.books() if (it["reply"], it["market"]) == ("book", market)]
+        for book in found:
+            numbers = json.dumps([it["order"] for it in book["orders"]], separators=(",", ":"))
+            for session, (surplus, fills) in enumerate((HALF, WHOLE), FIRST_SOLVER):
+                told = json.dumps(fills, separators=(",", ":"))
+                proposal = (
+                    f'{{"certificate":{{"cover":"line","measure":{MEASURE}}},"fills":{told},'
+                    f'"liability":"0","orders":{numbers},"surplus":"{surplus}"}}'
+                )
+                text = f"{book['id'].decode()} propose,{market},{proposal}"
+                self.redis.set(f"ragvismo:proposals/{session}", text)
+        return bool(found)
 
     def test_at_each_write(self) -> None:
         """Killed before or after any line or news, it goes on: nothing is said or told twice, and
@@ -325,13 +355,17 @@ class Kills(Standing):
         self.assertEqual(self.said_of(1), "cbCo")
 
     def test_two_that_are_killed(self) -> None:
-        """Two at once, one of which is killed and started again, do as one does."""
+        """Two at once, one of which is killed and started again, and at times Redis too, do as one
+        does."""
         self.list_market(1)
         self.list_market(2)
         self.solver(FIRST_SOLVER, *WHOLE)
         running = [self.auctioneer(1, 2, "--solve", "0.5") for _ in range(2)]
-        for _ in range(10 if Given.is_long else 3):
+        for turn in range(20 if Given.is_long else 3):
             time.sleep(self.random.uniform(0.5, 2))
+            if turn % 4 == 1:
+                self.stop_redis()
+                self.start_redis()
             self.assertIsNone(running[0].poll())
             running[0].kill()
             running[0].wait()
@@ -347,8 +381,3 @@ class Kills(Standing):
         self.assertEqual(self.published(), self.computed())
         ids = [book["id"] for book in self.books()]
         self.assertEqual(len(ids), len(set(ids)))
-
-    def place_if_open(self, market: int) -> None:
-        for line in ORDERS:
-            reply = self.trader.ask(line.format(market))
-            self.assertIn(reply.get("reason", ""), ("", "Closed"))
