@@ -174,8 +174,8 @@ def lines(path: Path) -> Iterator[str]:
 
 def take_all(path: Path, take: Callable[[dict[str, Any], str], None]) -> None:
     """Takes the replies of a journal one by one, each with its line. Replies of messages are taken
-    out of their answers, each once. Raises `BadJournal` where the file cannot be read, or a line is
-    no reply, or its number does not follow.
+    out of their answers, each once; what is told to questions is left out. Raises `BadJournal`
+    where the file cannot be read, or a line is no reply, or its number does not follow.
     """
     place, last, decode = 0, 0, json.JSONDecoder().raw_decode
     try:
@@ -184,7 +184,9 @@ def take_all(path: Path, take: Callable[[dict[str, Any], str], None]) -> None:
             if text[end:] not in ("\n", ""):
                 raise ValueError("more than one object on a line")
             reply = answer.get("of", answer)
-            if reply["reply"] == "gate" or (reply is not answer and reply["line"] <= last):
+            if reply["reply"] == "gate" or answer.get("reply") == "asked":
+                continue
+            if reply is not answer and reply["line"] <= last:
                 continue
             if reply["line"] <= last:
                 told = f"line {place} of {path} has the number {reply['line']} after {last}"

@@ -1,6 +1,6 @@
 // Reading a reply line by five tests, of which the first that fails is told: NotJson, Shape,
 // Number, Range, Spelling.
-import {ANSWER, GATES, RUN, SERVED, reply} from "./replies.mjs";
+import {ANSWER, ASKED, GATES, RUN, SERVED, reply} from "./replies.mjs";
 import {Fault, at, demand, isJust, pass} from "./kinds.mjs";
 import {NotJson, NumberText, readJson, spelled} from "./json_text.mjs";
 
@@ -46,17 +46,35 @@ function tested(text, value, table) {
 const isAnswer = value => value instanceof Map && value.size === 3 && value.get("of") instanceof Map
     && value.get("number") instanceof NumberText && value.get("session") instanceof NumberText;
 
-/** The reply's part of the line of an answer.
- * @param {string} text @param {JsonObject} value */
-function replyIn(text, value) {
-    pass(ANSWER, value);
-    const head = `{"number":${spelled(at(value, "number"))},"of":`;
-    const tail = `,"session":${spelled(at(value, "session"))}}`;
+/** Whether it tells the reply to a question.
+ * @param {Json} value @returns {value is JsonObject} */
+const isAsked = value => value instanceof Map && value.size === 3 && value.get("of") instanceof Map
+    && value.get("reply") === "asked" && value.get("session") instanceof NumberText;
+
+/** The reply's part of the line of an answer, behind a head.
+ * @param {string} text @param {string} head @param {string} tail */
+function between(text, head, tail) {
     const inner = text.slice(head.length, text.length - tail.length);
     const isBraced = inner.startsWith("{") && inner.endsWith("}");
     demand(text === head + inner + tail && isBraced, "Spelling",
         "it is not as the exchange spells an answer");
     return inner;
+}
+
+/** The reply that an answer to a message or to a question tells, or the whole of another line.
+ * @param {string} text @param {Json} value */
+function replyIn(text, value) {
+    if (isAnswer(value)) {
+        pass(ANSWER, value);
+        return between(text, `{"number":${spelled(at(value, "number"))},"of":`,
+            `,"session":${spelled(at(value, "session"))}}`);
+    }
+    if (isAsked(value)) {
+        pass(ASKED, value);
+        return between(text, `{"of":`,
+            `,"reply":"asked","session":${spelled(at(value, "session"))}}`);
+    }
+    return text;
 }
 
 /** The reply of a line that `run` wrote.
@@ -67,8 +85,8 @@ export const readRun = text => tested(text, valueOf(text, "NotJson"), RUN);
  * @param {string} text @returns {JsonObject} */
 export function readServed(text) {
     const value = valueOf(text, "NotJson");
-    if (isAnswer(value)) {
-        const inner = replyIn(text, value);
+    const inner = replyIn(text, value);
+    if (inner !== text) {
         return tested(inner, valueOf(inner, "Spelling"), SERVED);
     }
     const isGate = value instanceof Map && value.get("reply") === "gate";

@@ -228,3 +228,6 @@ export const reply = table => picked(value => {
 
 /** The numbers of a message and its session, beside the reply that is told. */
 export const ANSWER = members({number: MESSAGE, of: () => undefined, session: SESSION});
+
+/** The session of a question, beside the reply that is told. */
+export const ASKED = members({of: () => undefined, reply: word("asked"), session: SESSION});
