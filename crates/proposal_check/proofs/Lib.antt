@@ -1,0 +1,5 @@
+pub mod Answered
+pub mod Shapes
+pub mod Covered
+pub mod Proposals
+pub mod WorkedProposals

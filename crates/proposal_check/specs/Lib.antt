@@ -1,0 +1,5 @@
+pub mod Covers
+pub mod Proposals
+pub mod Conditions
+pub mod ProposalLaws
+pub mod Worked

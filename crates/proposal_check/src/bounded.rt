@@ -1,0 +1,42 @@
+//! The bound of a measure, and what is claimed of it.
+
+ghost use Rattle.std.specs.Prelude.{◌≡◌};
+ghost use Rattle.frac.specs.Range.{limit};
+ghost use Rattle.frac.specs.Value.{fraction_of};
+ghost use Rattle.form.specs.Limits.{HasItsForms};
+ghost use Rattle.cert_check.specs.Points.{IsOnStates};
+ghost use Rattle.proposal_check.specs.Proposals.{as_fraction, compared, measured_bound};
+
+use crate::covers::Unproved;
+use cert_check::{Judgement, Measure, No, bound, measure_holds};
+use form::Batch;
+use frac::Frac128;
+
+// The bound of the measure, where it is one.
+pub(crate) fn measured_bound(batch: &Batch, measure: &Measure) -> Result<Frac128, Unproved>
+    requires forms { HasItsForms batch.now }
+    requires states { IsOnStates batch.now.underlyings measure.now }
+    ensures { as_fraction result ≡ measured_bound limit batch.now.orders measure.now }
+{
+    if !measure_holds(measure)? {
+        return Err(Unproved::No(No::Measure));
+    }
+    Ok(bound(batch, measure)?)
+}
+
+// The judgement where the bound is said to be this number.
+pub(crate) fn compared(bound: Result<Frac128, Unproved>, claimed: &Frac128) -> Judgement
+    ensures { result ≡ compared (as_fraction bound) (fraction_of claimed.now) }
+{
+    match bound {
+        Ok(total) => {
+            if total == *claimed {
+                Judgement::Yes
+            } else {
+                Judgement::No(No::Bound)
+            }
+        }
+        Err(Unproved::No(condition)) => Judgement::No(condition),
+        Err(Unproved::Wide(wide)) => Judgement::Wide(wide),
+    }
+}

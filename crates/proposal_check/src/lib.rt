@@ -1,0 +1,15 @@
+//! The judgement of proposals: fills with a cover of one of four kinds and a measure, whoever found
+//! them. The line and the tree of signs are judged as a verdict judges them, the match of each
+//! bundle as an outcome without a certificate, and cells by the walk over them.
+#![tactic(auto)]
+
+mod bounded;
+mod covering;
+pub mod covers;
+pub mod judging;
+pub mod laws;
+mod shape;
+
+pub use covers::{Proposal, ProposalCover, Unproved};
+pub use judging::{bounded_verdict, judge_proposal};
+pub use shape::MAX_WALKED;
