@@ -5,13 +5,14 @@ ghost use Rattle.reply_print.specs.Within.{IsBatchWithin, IsReplyWithin};
 ghost use Rattle.frac.specs.Range.{limit};
 ghost use Rattle.frac.specs.Value.{fraction_of};
 ghost use Rattle.cert_check.specs.Events.{verdict_of};
-ghost use Rattle.cert_check.specs.Proposals.{bounded_verdict_of};
+ghost use Rattle.proposal_check.specs.Proposals.{bounded_verdict_of};
 ghost use Rattle.sign_tree.specs.Legs.{leg_count};
 
 use crate::Reason;
-use cert_check::{Judgement, Mark, No, Outcome, Proposal, bounded_verdict, verdict};
+use cert_check::{Judgement, Mark, No, Outcome, verdict};
 use form::{Batch, Order};
 use frac::Frac128;
+use proposal_check::{Proposal, bounded_verdict};
 use reply_text::{LineFault, Reply};
 use std::alloc::{AllocError, Global};
 
@@ -108,7 +109,8 @@ pub fn bounded_finding(
         ≡ bounded_is (bounded_verdict_of limit batch.now proposal.now (fraction_of bound.now))) }
 {
     let mut signs = vec![in alloc; 0; leg_count(batch.orders.as_slice())]?;
-    Ok(bounded_judgement(bounded_verdict(batch, proposal, bound, &mut signs)))
+    let judgement = bounded_verdict(alloc, batch, proposal, bound, &mut signs)?;
+    Ok(bounded_judgement(judgement))
 }
 
 /// What a reply within its ranges is found to be. The only error is want of memory.

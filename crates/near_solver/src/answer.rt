@@ -1,12 +1,13 @@
 //! What the solver answers: a proposal in fractions.
 
 use crate::rounding::{FILL_BITS, WEIGHT_BITS, WholeMeasure, WholePoint};
-use cert_check::{Claim, Cover, Fills, Measure, Points, Proposal, Weighted};
+use cert_check::{Claim, Cover, Fills, Measure, Points, Weighted};
 use exact_num::Exact;
 use form::State;
 use frac::Frac128;
 use near_programs::numbers::two_to;
 use near_programs::points::NearState;
+use proposal_check::{Proposal, ProposalCover};
 use std::alloc::{AllocError, Global};
 
 /// So many units of 2^-bits. None where that does not fit.
@@ -122,7 +123,7 @@ pub fn answer_of(
     Ok(Some(Proposal {
         fills,
         claim,
-        cover,
+        cover: ProposalCover::Checked(cover),
         measure,
     }))
 }

@@ -5,8 +5,8 @@ ghost use Rattle.form.specs.Limits.{IsWithinLimits};
 ghost use Rattle.proposals.specs.Judged.{IsJudgedBound};
 
 use crate::solve::solve_near;
-use cert_check::Proposal;
 use form::Batch;
+use proposal_check::Proposal;
 use proposals::judged_or_nothing;
 use std::alloc::{AllocError, Global};
 

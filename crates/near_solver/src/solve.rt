@@ -7,13 +7,14 @@ use crate::parts::{Growth, part_of};
 use crate::rounding::{
     WholeMeasure, gains_of, less_fills, measure_of, premium, rounded_fills, scaled_unit,
 };
-use cert_check::{Cover, Proposal};
+use cert_check::Cover;
 use form::Batch;
 use near_programs::numbers::{float_of, nearest_whole};
 use near_programs::points::{bend, unit_ray};
 use near_programs::{
     Book, Draws, Master, NearLeg, NearState, SMALL, Tree, Violated, from_zero, power,
 };
+use proposal_check::Proposal;
 use std::alloc::{AllocError, Global};
 
 // How often fills are covered: as they are, and made less.

@@ -1,6 +1,8 @@
 -- A proposal of nothing is judged a bound.
-use Rattle.std.proofs.Common.{◌≡◌, ℕ, zero, suc, ◌<◌, Bool, true, false, List, [], ◌∷◌, length, map, zip, get_or, replicate, pos, Ok, refl, ap, ap₂, sym, subst, ◌∙◌, arith}
+use Rattle.std.proofs.Common.{◌≡◌, ℕ, zero, suc, ◌*◌, ◌<◌, ◌≤◌, Bool, true, false, List, [], ◌∷◌, length, map, zip, get_or, replicate, pos, Ok, refl, ap, ap₂, sym, subst, ◌∙◌, arith}
 use Rattle.std.specs.List.{All, sum}
+use Rattle.std.specs.Prelude.{nat_le}
+use Rattle.std.proofs.lemmas.Bool.{le-leb}
 use Rattle.std.proofs.lemmas.Int.{ints}
 use Rattle.std.proofs.lemmas.List.{length-map, length-replicate}
 use Rattle.std.proofs.lemmas.List.Elements.{All-cons, All-nil}
@@ -22,18 +24,25 @@ use Rattle.cert_check.specs.declared.measures.Weighted.{Weighted}
 use Rattle.cert_check.specs.Points.{point_of}
 use Rattle.cert_check.specs.MeasureSums.{bound_of, has_unit_mass}
 use Rattle.sign_tree.specs.Read.{node_of, placed_of}
-use Rattle.sign_tree.specs.Legs.{fraction_legs}
+use Rattle.sign_tree.specs.declared.trees.Node.{Node}
+use Rattle.sign_tree.specs.Legs.{fraction_legs, leg_count}
 use Rattle.sign_tree.specs.Walk.{closes_of}
 use Rattle.cert_check.specs.declared.outcome.Cover.{Cover}
 use Rattle.cert_check.specs.declared.outcome.Cover.TheVariants.{Line, Tree}
 use Rattle.cert_check.specs.declared.outcome.No.TheVariants as no
-use Rattle.cert_check.specs.declared.outcome.Proposal.{Proposal}
-use Rattle.cert_check.specs.Conditions.{IsCoverOn, IsOfBatch}
-use Rattle.cert_check.specs.Proposals.{as_optimal, fitting, measured_bound, proposal_bound, proposal_covered, require}
-use Rattle.cert_check.specs.Shape.{are_fills, has_shape}
-use Rattle.cert_check.specs.Tests.{batch_covered, claim_holds, cover_holds, premium_of, surplus_holds}
-use Rattle.cert_check.proofs.Shapes.{fills_unmet, shape_unmet}
-use Rattle.proposals.specs.Judged.{IsBareCover, NothingIsABound, ProposesNothing, zero_prices}
+use Rattle.cert_check.specs.Conditions.{IsCoverOn}
+use Rattle.cert_check.specs.Shape.{are_fills}
+use Rattle.cert_check.specs.Tests.{claim_holds, cover_holds, premium_of, surplus_holds}
+use Rattle.cert_check.proofs.Shapes.{fills_unmet}
+use Rattle.proposal_check.specs.declared.covers.Proposal.{Proposal}
+use Rattle.proposal_check.specs.declared.covers.ProposalCover.{ProposalCover}
+use Rattle.proposal_check.specs.declared.covers.ProposalCover.TheVariants.{Checked, Match, Cells}
+use Rattle.proposal_check.specs.declared.shape.TheConstants.{MAX_WALKED}
+use Rattle.proposal_check.specs.Conditions.{IsOfBatch}
+use Rattle.proposal_check.specs.Covers.{IsCoverOf, cover_shows, is_walkable}
+use Rattle.proposal_check.specs.Proposals.{fitting, has_shape, measured_bound, proposal_bound, proposal_covered, require}
+use Rattle.proposal_check.proofs.Shapes.{shape_unmet}
+use Rattle.proposals.specs.Judged.{IsBare, IsBareCover, NothingIsABound, ProposesNothing, zero_prices}
 use Rattle.proposals.proofs.Bounded.{bound_fits, unit_mass}
 use Rattle.proposals.proofs.NothingOwed.{adds_nothing, leaf_is_nothing, line_is_nothing, nothing, unfilled}
 
@@ -45,6 +54,25 @@ not_false false f = absurd (f refl)
 cover_on : (n : ℕ) (cover : Cover) → IsBareCover n cover → IsCoverOn n cover
 cover_on n Line is = is
 cover_on n (Tree tree) is = omega (arith, is.0)
+
+few_legs : (orders : List Order) → leg_count orders ≤ 4 * length orders
+few_legs [] = let none : leg_count [] ≡ 0 = refl in omega (arith, none)
+few_legs (o ∷ orders) =
+    let size = o.bundle.size_in_range.1 in
+    omega (arith, sum_by-cons (λ (order : Order). order.bundle.size) o orders, size, few_legs orders)
+
+-- one leaf is walked over the legs of 256 orders
+walked : (batch : Batch) (cover : Cover) → IsWithinLimits batch → IsBareCover batch.underlyings cover → is_walkable (leg_count batch.orders) cover ≡ true
+walked batch Line within is = refl
+walked batch (Tree tree) within is =
+    let legs = leg_count batch.orders in
+    ap (λ (nodes : List Node). nat_le (length nodes * legs) MAX_WALKED) is.1
+    ∙ le-leb (1 * legs) MAX_WALKED (omega (arith, few_legs batch.orders, within.orders_fit))
+
+cover_of : (batch : Batch) (cover : ProposalCover) → IsWithinLimits batch → IsBare batch.underlyings cover → IsCoverOf batch cover
+cover_of batch (Checked cover) within is = (cover_on batch.underlyings cover is, walked batch cover within is)
+cover_of batch Match within is = absurd is
+cover_of batch (Cells nodes) within is = absurd is
 
 sum_above : (n : ℕ) → 0 < sum (1 ∷ replicate n 0)
 sum_above n = omega (arith, sum_by-cons (λ (n : ℕ). n) 1 (replicate n 0))
@@ -58,16 +86,17 @@ fills_count : (batch : Batch) (proposal : Proposal) → ProposesNothing batch pr
 fills_count batch proposal is =
     sym (length-map proposal.fills fraction_of) ∙ ap length is.fills ∙ length-replicate (length batch.orders) nothing
 
-shape_passes : (batch : Batch) (proposal : Proposal) → IsWithinLimits batch → ProposesNothing batch proposal → has_shape batch (as_optimal proposal) ≡ true
+shape_passes : (batch : Batch) (proposal : Proposal) → IsWithinLimits batch → ProposesNothing batch proposal → has_shape batch proposal ≡ true
 shape_passes batch proposal within is =
     let n = batch.underlyings in
     let P : List Point → Type 0 = λ points. All (λ (point : Point). IsState n point.0) points in
-    let met : IsOfBatch batch (as_optimal proposal) = record {
+    let met : IsOfBatch batch proposal = record {
       orders = λ k d lt. is_bundle_of n (get_or batch.orders k d) (within.has_forms.forms k d lt);
       fills = fills_count batch proposal is;
-      mark = (cover_on n proposal.cover is.cover, subst P (sym is.measure) (states_on n));
+      cover = cover_of batch proposal.cover within is.cover;
+      states = subst P (sym is.measure) (states_on n);
     } in
-    not_false _ (λ failed. shape_unmet batch (as_optimal proposal) failed met)
+    not_false _ (λ failed. shape_unmet batch proposal failed met)
 
 each_unfilled : (orders : List Order) → All IsFill (unfilled orders)
 each_unfilled [] = All-nil IsFill
@@ -98,12 +127,16 @@ cover_closes n orders (Tree tree) is within =
     (λ i. closes_of limit n (fraction_legs orders (replicate (length orders) nothing)) nothing (map node_of (is.1 i)) (map placed_of (is.2 i)))
     ∙ leaf_is_nothing n orders
 
+shows : (batch : Batch) (proposal : Proposal) (cover : ProposalCover) → IsWithinLimits batch → ProposesNothing batch proposal → IsBare batch.underlyings cover
+    → cover_shows limit batch proposal.fills proposal.claim.liability cover ≡ Ok true
+shows batch proposal (Checked cover) within is bare =
+    (λ i. cover_holds limit batch.underlyings batch.orders (is.fills i) (is.liability i) cover)
+    ∙ cover_closes batch.underlyings batch.orders cover bare within.orders_within
+shows batch proposal Match within is bare = absurd bare
+shows batch proposal (Cells nodes) within is bare = absurd bare
+
 covered : (batch : Batch) (proposal : Proposal) → IsWithinLimits batch → ProposesNothing batch proposal → proposal_covered limit batch proposal ≡ Ok true
-covered batch proposal within is =
-    let cover : batch_covered limit batch proposal.fills proposal.claim.liability proposal.cover ≡ Ok true =
-    (λ i. cover_holds limit batch.underlyings batch.orders (is.fills i) (is.liability i) proposal.cover)
-    ∙ cover_closes batch.underlyings batch.orders proposal.cover is.cover within.orders_within in
-    rw (claimed batch proposal is) cover
+covered batch proposal within is = rw (claimed batch proposal is) (shows batch proposal proposal.cover within is is.cover)
 
 -- ---- what the code makes
 pub fills_of_one : (n : ℕ) (x : Frac128) → fraction_of x ≡ nothing → map fraction_of (replicate n x) ≡ replicate n nothing

@@ -6,7 +6,7 @@ use Rattle.exact_num.specs.Fraction.{AtMost}
 use Rattle.exact_num.specs.Tests.{is_at_most}
 use Rattle.frac.specs.Value.{fraction_of}
 use Rattle.form.specs.declared.orders.Batch.{Batch}
-use Rattle.cert_check.proofs.Proposals.{halves_join}
+use Rattle.proposal_check.proofs.Proposals.{halves_join}
 use Rattle.proposals.specs.declared.best.CoveredFills.{CoveredFills}
 use Rattle.proposals.specs.declared.best.BoundedMeasure.{BoundedMeasure}
 use Rattle.proposals.specs.declared.best.Best.{Best}

@@ -6,7 +6,7 @@ use Rattle.exact_num.specs.Fraction.{Fraction}
 use Rattle.exact_num.specs.Tests.{is_at_most}
 use Rattle.frac.specs.declared.frac128.Frac128.{Frac128}
 use Rattle.frac.specs.Value.{fraction_of}
-use Rattle.cert_check.specs.declared.outcome.Proposal.{Proposal}
+use Rattle.proposal_check.specs.declared.covers.Proposal.{Proposal}
 use Rattle.proposals.specs.declared.best.CoveredFills.{CoveredFills}
 use Rattle.proposals.specs.declared.best.BoundedMeasure.{BoundedMeasure}
 use Rattle.proposals.specs.declared.best.Best.{Best}

@@ -5,8 +5,8 @@ use Rattle.frac.specs.Range.{limit}
 use Rattle.frac.specs.declared.frac128.Frac128.{Frac128}
 use Rattle.frac.specs.Value.{fraction_of}
 use Rattle.form.specs.declared.orders.Batch.{Batch}
-use Rattle.cert_check.specs.declared.outcome.Proposal.{Proposal}
-use Rattle.cert_check.specs.Proposals.{proposal_bound}
+use Rattle.proposal_check.specs.declared.covers.Proposal.{Proposal}
+use Rattle.proposal_check.specs.Proposals.{proposal_bound}
 use Rattle.proposals.specs.declared.best.Best.{Best}
 use Rattle.proposals.specs.Best.{surplus_of, after_offer, best_for}
 

@@ -3,9 +3,10 @@
 ghost use Rattle.std.specs.Prelude.{◌≡◌};
 ghost use Rattle.proposals.specs.Best.{after_best, best_of, better_fills, better_measure, joined};
 
-use cert_check::{Claim, Cover, Fills, Measure, Proposal};
+use cert_check::{Claim, Fills, Measure};
 use frac::Frac128;
 use lists::List;
+use proposal_check::{Proposal, ProposalCover};
 
 /// The numbers of a market's live orders, by rising number.
 pub type OrderNumbers = List<u64>;
@@ -15,7 +16,7 @@ pub type OrderNumbers = List<u64>;
 pub struct CoveredFills {
     pub fills: Fills,
     pub claim: Claim,
-    pub cover: Cover,
+    pub cover: ProposalCover,
 }
 
 /// A measure and its bound.

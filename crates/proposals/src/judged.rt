@@ -2,13 +2,11 @@
 
 ghost use Rattle.std.specs.Prelude.{◌≡◌, ◌↔◌, IfOk, IsTrue};
 ghost use Rattle.form.specs.Limits.{IsWithinLimits};
-ghost use Rattle.cert_check.specs.Laws.{IsCovered};
-ghost use Rattle.cert_check.specs.Proposals.{as_optimal};
 ghost use Rattle.proposals.specs.Judged.{IsHandedOut, IsJudgedBound};
 
 use crate::unfilled::nothing;
-use cert_check::{Proposal, judge_proposal};
 use form::Batch;
+use proposal_check::{Proposal, judge_proposal};
 use sign_tree::leg_count;
 use std::alloc::{AllocError, Global};
 
@@ -42,5 +40,5 @@ fn is_judged_bound(alloc: Global, batch: &Batch, proposal: &Proposal) -> Result<
     ensures { IfOk result (λ is. IsTrue is ↔ IsJudgedBound batch.now proposal.now) }
 {
     let mut signs = vec![in alloc; 0_i8; leg_count(batch.orders.as_slice())]?;
-    Ok(judge_proposal(batch, proposal, &mut signs).is_ok())
+    Ok(judge_proposal(alloc, batch, proposal, &mut signs)?.is_ok())
 }

@@ -6,8 +6,8 @@ ghost use Rattle.proposals.specs.Best.{after_offer, best_for};
 ghost use Rattle.proposals.specs.Laws.{LosesNothing};
 
 use crate::best::{Best, OrderNumbers};
-use cert_check::Proposal;
 use frac::Frac128;
+use proposal_check::Proposal;
 use std::marker::Model;
 
 /// What is kept for a market: nothing, or the best for one list of orders.

@@ -7,10 +7,11 @@ ghost use Rattle.form.specs.Limits.{IsWithinLimits};
 ghost use Rattle.cert_check.specs.Points.{point_of};
 ghost use Rattle.proposals.specs.Judged.{IsBareCover, IsJudgedBound, ProposesNothing, zero_prices};
 
-use cert_check::{Claim, Cover, Fills, Measure, Points, Proposal, Weighted};
+use cert_check::{Claim, Cover, Fills, Measure, Points, Weighted};
 use exact_num::Exact;
 use form::{Batch, Order};
 use frac::Frac128;
+use proposal_check::{Proposal, ProposalCover};
 use settlement::payouts::settlement_at;
 use sign_tree::{Multipliers, Node, Nodes, SignTree};
 use std::alloc::{AllocError, Global};
@@ -39,7 +40,7 @@ fn without_fills(alloc: Global, batch: &Batch) -> Result<Proposal, AllocError>
             liability: zero,
             surplus: zero,
         },
-        cover: bare_cover(alloc, batch.underlyings)?,
+        cover: ProposalCover::Checked(bare_cover(alloc, batch.underlyings)?),
         measure: Measure {
             points: Points::from_vec(zero_prices(alloc, batch.underlyings)?),
         },
