@@ -15,7 +15,7 @@ use Rattle.cert_check.specs.declared.measures.Weighted.{Weighted}
 use Rattle.sign_tree.specs.declared.trees.Multiplier.{Multiplier}
 use Rattle.cert_check.specs.declared.outcome.Cover.{Cover}
 use Rattle.cert_check.specs.declared.outcome.Cover.TheVariants.{Line, Tree}
-use Rattle.cert_check.specs.declared.outcome.Proposal.{Proposal}
+use Rattle.proposal_check.specs.declared.covers.Proposal.{Proposal}
 use Rattle.reply_print.specs.OutcomePieces.{state_entries}
 use Rattle.proposals.specs.Judged.{IsBareCover, ProposesNothing, zero_prices}
 use Rattle.reply_print.specs.Within.{IsBatchWithin, IsCoverWithin, IsNodeWithin, IsOrderNumber, IsOrderWithin, IsPlace, IsPointWithin, IsSmall, leaves_of}

@@ -15,7 +15,7 @@ use Rattle.cert_check.specs.declared.measures.Weighted.{Weighted}
 use Rattle.cert_check.specs.Points.{point_of}
 use Rattle.cert_check.specs.declared.outcome.Cover.{Cover}
 use Rattle.cert_check.specs.declared.outcome.Cover.TheVariants.{Line, Tree}
-use Rattle.cert_check.specs.declared.outcome.Proposal.{Proposal}
+use Rattle.proposal_check.specs.declared.covers.Proposal.{Proposal}
 use Rattle.proposals.specs.Judged.{IsBareCover, ProposesNothing}
 use Rattle.live_lines.specs.Open.{IsOneLine}
 use Rattle.limits.specs.declared.TheConstants.{MAX_BYTES}

@@ -4,7 +4,7 @@ use Rattle.std.specs.Prelude.{ℕ, ◌≡◌, ◌+◌, ◌≤◌, ◌⊎◌, Lis
 use Rattle.form.specs.declared.orders.Batch.{Batch}
 use Rattle.form.specs.declared.orders.Order.{Order}
 use Rattle.form.specs.Limits.{IsWithinLimits}
-use Rattle.cert_check.specs.declared.outcome.Proposal.{Proposal}
+use Rattle.proposal_check.specs.declared.covers.Proposal.{Proposal}
 use Rattle.proposals.specs.Judged.{IsJudgedBound}
 use Rattle.limits.specs.declared.TheConstants.{MAX_BYTES}
 use Rattle.proposal_text.specs.declared.submissions.Submission.{Submission}

@@ -7,7 +7,7 @@ use Rattle.command_text.specs.Said.{said_in}
 use Rattle.exchange_core.specs.Refusals.{by_book}
 use Rattle.exchange_core.specs.Step.{batch_in}
 use Rattle.form.specs.declared.orders.Batch.{Batch}
-use Rattle.cert_check.specs.declared.outcome.Proposal.{Proposal}
+use Rattle.proposal_check.specs.declared.covers.Proposal.{Proposal}
 use Rattle.proposals.specs.Judged.{IsJudgedBound}
 use Rattle.live_lines.specs.Open.{IsOneLine}
 use Rattle.limits.specs.declared.TheConstants.{MAX_BYTES}

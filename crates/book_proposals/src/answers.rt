@@ -7,7 +7,7 @@ ghost use Rattle.reply_print.specs.Within.{IsBatchWithin};
 ghost use Rattle.book_proposals.specs.Answers.{IsAnswerTo, IsProposed, proposing_text, submission_for};
 
 use crate::books::book_of;
-use cert_check::Proposal;
+use proposal_check::Proposal;
 use form::{Batch, Order};
 use itoa::Buffer;
 use limits::MAX_BYTES;

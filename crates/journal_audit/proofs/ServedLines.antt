@@ -5,8 +5,8 @@ use Rattle.frac.specs.Value.{fraction_of}
 use Rattle.form.specs.declared.orders.Batch.{Batch}
 use Rattle.cert_check.specs.declared.outcome.Judgement.{Judgement}
 use Rattle.cert_check.specs.declared.outcome.Judgement.TheVariants as judgement
-use Rattle.cert_check.specs.Proposals.{bounded_verdict_of}
-use Rattle.cert_check.proofs.Proposals.{bounded_shows}
+use Rattle.proposal_check.specs.Proposals.{bounded_verdict_of}
+use Rattle.proposal_check.proofs.Proposals.{bounded_shows}
 use Rattle.serde_json.specs.Data.{Data}
 use Rattle.reply_print.specs.Look.{word_at}
 use Rattle.reply_text.specs.declared.faults.LineFault.{LineFault}

@@ -3,7 +3,7 @@ use Rattle.std.specs.Prelude.{ℕ, List, Bool, ◌&&◌, ◌||◌, ◌==◌, nat
 use Rattle.std.specs.Str.{bytes_eq}
 use Rattle.frac.specs.Range.{limit}
 use Rattle.frac.specs.Value.{fraction_of}
-use Rattle.cert_check.specs.Proposals.{bounded_verdict_of}
+use Rattle.proposal_check.specs.Proposals.{bounded_verdict_of}
 use Rattle.serde_json.specs.Data.{Data}
 use Rattle.reply_print.specs.Look.{word_at, number_at}
 use Rattle.reply_text.specs.declared.faults.LineFault.{LineFault}

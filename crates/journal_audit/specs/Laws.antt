@@ -6,8 +6,8 @@ use Rattle.form.specs.Between.{Between}
 use Rattle.form.specs.declared.orders.Batch.{Batch}
 use Rattle.cert_check.specs.declared.outcome.Judgement.TheVariants as judgement
 use Rattle.cert_check.specs.Laws.{IsCovered}
-use Rattle.cert_check.specs.ProposalLaws.{BoundSurplus, HasBound}
-use Rattle.cert_check.specs.Proposals.{as_optimal, bounded_verdict_of}
+use Rattle.proposal_check.specs.ProposalLaws.{BoundSurplus, HasBound}
+use Rattle.proposal_check.specs.Proposals.{as_outcome, bounded_verdict_of}
 use Rattle.limits.specs.declared.TheConstants.{MAX_MESSAGE}
 use Rattle.reply_print.specs.declared.replies.Reply.{Reply}
 use Rattle.proposal_text.specs.declared.replies.BoundedOutcome.{BoundedOutcome}
@@ -31,7 +31,7 @@ use Rattle.journal_audit.specs.GateLines.{IsGateLineOf, IsSessionNumber}
 -- than the bound, as the measure proves
 pub record IsBoundedProved (batch : Batch) (outcome : BoundedOutcome) : Type 0 where
   pub yes : bounded_verdict_of limit batch outcome.proposal (fraction_of outcome.bound) ≡ judgement.Yes
-  pub covered : IsCovered batch (as_optimal outcome.proposal)
+  pub covered : IsCovered batch (as_outcome outcome.proposal)
   pub measured : HasBound batch outcome.proposal (fraction_of outcome.bound)
   pub bounds : BoundSurplus batch outcome.proposal (fraction_of outcome.bound)
 

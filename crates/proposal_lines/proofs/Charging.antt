@@ -1,9 +1,9 @@
 -- What a clear charges.
 use Rattle.std.proofs.Common.{◌≡◌, ℕ, ◌+◌, map, [], true, Option, Some, None, Result, Ok, Err, refl, sym, ap, ◌∙◌, subst}
 use Rattle.std.specs.Option.{option_map, option_map_or}
-use Rattle.cert_check.specs.Proposals.{proposal_bound}
+use Rattle.proposal_check.specs.Proposals.{proposal_bound}
 use Rattle.cert_check.specs.declared.outcome.Outcome.{Outcome}
-use Rattle.cert_check.specs.declared.outcome.Unproved.{Unproved as Reason}
+use Rattle.proposal_check.specs.declared.covers.Unproved.{Unproved as Reason}
 use Rattle.clearing_model.specs.Certificate.{AreFractionFills}
 use Rattle.exact_num.specs.Fraction.{Fraction}
 use Rattle.exchange_core.specs.ExchangeState.{ExchangeState}

@@ -4,10 +4,10 @@ use Rattle.std.proofs.Common.{◌≡◌, ℕ, List, [], Bool, true, false, if◌
 use Rattle.std.specs.Prelude.{IfSome}
 use Rattle.std.specs.Option.{option_map_or}
 use Rattle.std.proofs.lemmas.Int.{ints}
-use Rattle.cert_check.specs.ProposalLaws.{Proves}
+use Rattle.proposal_check.specs.ProposalLaws.{Proves}
 use Rattle.cert_check.specs.declared.outcome.Outcome.{Outcome}
 use Rattle.cert_check.specs.declared.outcome.Mark.TheVariants.{Budget}
-use Rattle.cert_check.proofs.Proposals.{proposals_are_decided}
+use Rattle.proposal_check.proofs.Proposals.{proposals_are_decided}
 use Rattle.clearing.specs.Outcome.{fallback, has_values, optimal_outcome, outcome_at, outcome_of, run_of}
 use Rattle.exact_num.specs.Fraction.{AtMost, Fraction}
 use Rattle.exact_num.specs.Tests.{is_at_most}

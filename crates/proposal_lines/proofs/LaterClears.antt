@@ -2,9 +2,9 @@
 use Rattle.std.proofs.Common.{◌≡◌, ℕ, List, [], ◌∷◌, Bool, true, false, nat_eq, if◌then◌else◌, Option, Some, None, Result, Ok, Err, option_and_then, refl, sym, ap, ◌∙◌, subst}
 use Rattle.std.specs.Option.{option_map_or}
 use Rattle.proposal_lines.specs.AllKinds.{said_line}
-use Rattle.cert_check.specs.Proposals.{proposal_bound}
+use Rattle.proposal_check.specs.Proposals.{proposal_bound}
 use Rattle.cert_check.specs.declared.outcome.Outcome.{Outcome}
-use Rattle.cert_check.specs.declared.outcome.Unproved.{Unproved as Reason}
+use Rattle.proposal_check.specs.declared.covers.Unproved.{Unproved as Reason}
 use Rattle.command_text.specs.declared.asked.Fault.{Fault}
 use Rattle.command_text.specs.declared.command.Command.TheVariants.{Clear}
 use Rattle.command_text.specs.declared.requests.Request.{Request}

@@ -6,7 +6,7 @@ use Rattle.std.proofs.lemmas.Slice.Eq.{bytes_eq-Decides}
 use Rattle.arithmetic.proofs.Integers.{*ℤ_cancel_le, *ℤ_mono_left}
 use Rattle.arithmetic.proofs.Products.{products}
 use Rattle.cert_check.specs.declared.outcome.Outcome.{Outcome}
-use Rattle.cert_check.specs.declared.outcome.Proposal.{Proposal}
+use Rattle.proposal_check.specs.declared.covers.Proposal.{Proposal}
 use Rattle.exact_num.specs.Fraction.{AtMost, Fraction}
 use Rattle.exact_num.specs.Tests.{is_at_most}
 use Rattle.frac.specs.Value.{fraction_of}

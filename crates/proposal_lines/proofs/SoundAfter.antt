@@ -1,7 +1,7 @@
 -- What a line is told leaves a state that an exchange which takes proposals may be in.
 use Rattle.std.proofs.Common.{◌≡◌, ℕ, List, Ok, ap, sym, ◌∙◌, subst}
 use Rattle.std.proofs.lemmas.Slice.Eq.{bytes_eq-Decides}
-use Rattle.cert_check.specs.Proposals.{proposal_bound}
+use Rattle.proposal_check.specs.Proposals.{proposal_bound}
 use Rattle.command_text.specs.Commands.{body_of_line}
 use Rattle.command_text.proofs.ReadWithin.{lines_are_within}
 use Rattle.exchange_core.specs.ExchangeState.{ExchangeState}

@@ -4,8 +4,8 @@ use Rattle.std.specs.Option.{option_map_or}
 use Rattle.std.proofs.lemmas.List.Elements.{All-nil, All-cons}
 use Rattle.proposal_lines.proofs.AsRun.{said_as_run, said_beside}
 use Rattle.cert_check.specs.Laws.{IsCovered}
-use Rattle.cert_check.specs.Proposals.{as_optimal, proposal_bound}
-use Rattle.cert_check.proofs.Proposals.{proposals_are_decided}
+use Rattle.proposal_check.specs.Proposals.{as_outcome, proposal_bound}
+use Rattle.proposal_check.proofs.Proposals.{proposals_are_decided}
 use Rattle.command_text.specs.declared.asked.Fault.{Fault}
 use Rattle.exchange_core.specs.Refusals.{by_book}
 use Rattle.frac.specs.Range.{limit}
@@ -184,7 +184,7 @@ module _ (state : ProposingState) (line : InputLine) (sound : IsSound state) whe
       }
 
   -- an outcome that is charged covers as its proposal does
-  pub charged_covered : (batch : Batch) (better : BoundedOutcome) → IsCovered batch (as_optimal better.proposal) → IsCovered batch (charged better)
+  pub charged_covered : (batch : Batch) (better : BoundedOutcome) → IsCovered batch (as_outcome better.proposal) → IsCovered batch (charged better)
   charged_covered batch better is = record { on_underlyings = is.on_underlyings; covers = is.covers; not_below_zero = is.not_below_zero }
 
   bounded_told : (market budget : ℕ) (better : BoundedOutcome) → body_of_line line.bytes ≡ body.Command (Clear market budget) → refusal_of state.exchange (Clear market budget) ≡ None

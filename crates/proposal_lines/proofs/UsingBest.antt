@@ -5,13 +5,13 @@ use Rattle.std.specs.Option.{option_map_or}
 use Rattle.std.proofs.lemmas.Int.{ints}
 use Rattle.cert_check.specs.Conditions.{IfOptimal}
 use Rattle.cert_check.specs.Laws.{IsCovered, IsMeasured, IsProved}
-use Rattle.cert_check.specs.ProposalLaws.{Proves}
-use Rattle.cert_check.specs.Proposals.{as_optimal}
+use Rattle.proposal_check.specs.ProposalLaws.{Proves}
+use Rattle.proposal_check.specs.Proposals.{as_outcome}
 use Rattle.cert_check.specs.declared.outcome.Mark.{Mark}
 use Rattle.cert_check.specs.declared.outcome.Mark.TheVariants.{Optimal, Wide, Budget}
 use Rattle.cert_check.specs.declared.outcome.Outcome.{Outcome}
-use Rattle.cert_check.specs.declared.outcome.Proposal.{Proposal}
-use Rattle.cert_check.proofs.Proposals.{proposals_are_decided}
+use Rattle.proposal_check.specs.declared.covers.Proposal.{Proposal}
+use Rattle.proposal_check.proofs.Proposals.{proposals_are_decided}
 use Rattle.command_text.specs.declared.command.Body.{Body}
 use Rattle.command_text.specs.declared.command.Body.TheVariants as body
 use Rattle.command_text.specs.declared.command.Command.{Command}
@@ -261,8 +261,8 @@ module _ (market : ℕ) (offer : Proposal) (bound : Fraction) (state next : Prop
           record {
             no_less = subst (λ (b : BoundedOutcome). AtMost (claimed offer) (fraction_of b.proposal.claim.surplus)) (sym c.is)
                 (subst (λ (best : Best). AtMost (claimed offer) (surplus_of best.covered)) (sym same) counts.no_less);
-            within = covered_within (as_optimal answer.better.proposal)
-                (subst (λ (q : ℕ). IsCovered (batch_in state.exchange q) (as_optimal answer.better.proposal)) here better.proves.covered);
+            within = covered_within (as_outcome answer.better.proposal)
+                (subst (λ (q : ℕ). IsCovered (batch_in state.exchange q) (as_outcome answer.better.proposal)) here better.proves.covered);
             no_more = subst (λ (b : BoundedOutcome). AtMost (fraction_of b.bound) bound) (sym c.is)
                 (subst (λ (best : Best). AtMost (fraction_of best.bounded.bound) bound) (sym same) counts.no_more);
           }

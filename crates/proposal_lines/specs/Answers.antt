@@ -1,6 +1,6 @@
 -- What lines are told where proposals are taken.
 use Rattle.std.specs.Prelude.{ℕ, ◌≡◌, ◌+◌, ◌⊎◌, ⊤, List, [], ◌∷◌, ◌++◌, Some, None, Ok}
-use Rattle.cert_check.specs.Proposals.{proposal_bound}
+use Rattle.proposal_check.specs.Proposals.{proposal_bound}
 use Rattle.frac.specs.Range.{limit}
 use Rattle.frac.specs.Value.{fraction_of}
 use Rattle.frac.specs.declared.frac128.Frac128.{Frac128}

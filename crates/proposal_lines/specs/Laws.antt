@@ -1,6 +1,6 @@
 -- What proposals do to a clear, and what they do not.
 use Rattle.std.specs.Prelude.{ℕ, ◌≡◌, Option, Some, None, IfSome, Result, ⊤}
-use Rattle.cert_check.specs.ProposalLaws.{Proves}
+use Rattle.proposal_check.specs.ProposalLaws.{Proves}
 use Rattle.cert_check.specs.declared.outcome.Outcome.{Outcome}
 use Rattle.clearing.specs.Outcome.{fallback}
 use Rattle.command_text.specs.declared.asked.Fault.{Fault}

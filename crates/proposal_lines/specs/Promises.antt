@@ -1,7 +1,7 @@
 -- What is promised of the bytes that are written where proposals are taken.
 use Rattle.std.specs.Prelude.{ℕ, ◌≡◌, ⊤, List, [], ◌∷◌, ◌++◌, true, Result, Ok}
 use Rattle.std.specs.List.{All}
-use Rattle.cert_check.specs.ProposalLaws.{Proves}
+use Rattle.proposal_check.specs.ProposalLaws.{Proves}
 use Rattle.frac.specs.Value.{fraction_of}
 use Rattle.proposals.specs.Laws.{as_proposal}
 use Rattle.proposal_lines.specs.AllKinds.{said_line}

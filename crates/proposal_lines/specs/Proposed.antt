@@ -1,8 +1,8 @@
 -- Lines that propose fills for a market.
 use Rattle.std.specs.Prelude.{ℕ, List, drop, ◌≡◌, Option, Some, None, Result, Ok, Err, if◌then◌else◌}
 use Rattle.std.specs.Option.{option_map_or}
-use Rattle.cert_check.specs.Proposals.{proposal_bound}
-use Rattle.cert_check.specs.declared.outcome.Unproved.{Unproved as Reason}
+use Rattle.proposal_check.specs.Proposals.{proposal_bound}
+use Rattle.proposal_check.specs.declared.covers.Unproved.{Unproved as Reason}
 use Rattle.command_text.specs.declared.asked.Fault.{Fault}
 use Rattle.command_text.specs.declared.asked.Fault.TheVariants.{Range}
 use Rattle.command_text.specs.declared.requests.ProposeRequest.{ProposeRequest}

@@ -1,6 +1,6 @@
 // What becomes of a proposal.
 ghost use Rattle.std.specs.Prelude.{◌≡◌, IfOk};
-ghost use Rattle.cert_check.specs.Proposals.{proposal_bound};
+ghost use Rattle.proposal_check.specs.Proposals.{proposal_bound};
 ghost use Rattle.form.specs.Limits.{IsWithinLimits};
 ghost use Rattle.frac.specs.Range.{limit};
 ghost use Rattle.order_book.specs.Numbers.{numbers_of};
@@ -9,7 +9,7 @@ ghost use Rattle.proposal_lines.specs.Proposed.{IsJudged, kept_by, offered};
 
 use crate::kept_by_market::KeptByMarket;
 use crate::proposed::Proposed;
-use cert_check::{Proposal, judge_proposal};
+use proposal_check::{Proposal, judge_proposal};
 use form::{Batch, Order};
 use frac::Frac128;
 use proposal_text::{Failed, ProposalReply, failed_as};

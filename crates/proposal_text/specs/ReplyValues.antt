@@ -14,7 +14,7 @@ use Rattle.settlement.specs.declared.position.Position.{Position}
 use Rattle.frac.specs.Range.{limit}
 use Rattle.serde_json.specs.Data.{Data}
 use Rattle.serde_json.specs.Find.{as_bool}
-use Rattle.cert_check.specs.declared.outcome.Proposal.{Proposal}
+use Rattle.proposal_check.specs.declared.covers.Proposal.{Proposal}
 use Rattle.form.specs.declared.limits.TheConstants.{MAX_BUDGET, MAX_ORDER, MAX_ORDERS}
 use Rattle.limits.specs.declared.TheConstants.{MAX_BATCHES}
 use Rattle.reply_print.specs.Look.{word_at, number_at}

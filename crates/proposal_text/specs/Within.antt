@@ -11,7 +11,7 @@ use Rattle.frac.specs.declared.frac128.Frac128.{Frac128}
 use Rattle.form.specs.Bundles.{legs_in}
 use Rattle.form.specs.Limits.{IsListed}
 use Rattle.form.specs.Payoff.{option_of}
-use Rattle.cert_check.specs.declared.outcome.Proposal.{Proposal}
+use Rattle.proposal_check.specs.declared.covers.Proposal.{Proposal}
 use Rattle.settlement.specs.declared.position.Position.{Position}
 use Rattle.reply_print.specs.Within.{IsLine, IsAccount, IsMarket, IsSmall, IsOrderNumber, IsBatchNumber, IsBatchWithin, IsCoverWithin, IsPointWithin}
 use Rattle.proposal_text.specs.declared.submissions.Submission.{Submission}

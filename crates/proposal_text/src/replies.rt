@@ -2,11 +2,12 @@
 //! whose outcome was proposed, and of what accounts need and what would be filled.
 ghost use Rattle.std.specs.Prelude.{◌≡◌, ◌≢◌};
 ghost use Rattle.cert_check.specs.declared.outcome.No.TheVariants as no;
-ghost use Rattle.cert_check.specs.declared.outcome.Unproved.TheVariants as unproved;
+ghost use Rattle.proposal_check.specs.declared.covers.Unproved.TheVariants as unproved;
 ghost use Rattle.proposal_text.specs.Pieces.{failed_as};
 
 use crate::needs::Need;
-use cert_check::{No, Proposal, Unproved};
+use cert_check::No;
+use proposal_check::{Proposal, Unproved};
 use form::Batch;
 use frac::Frac128;
 use lists::List;

@@ -10,7 +10,8 @@ ghost use Rattle.proposal_text.specs.declared.submissions.Submission.{Submission
 ghost use Rattle.proposal_text.specs.Submissions.{IsTextOf, order_number_from as number_found, order_numbers_at as numbers_found, proposal_from as proposal_found, proposal_of, proposal_numbers as numbers_are, proposal_shape as shape_is, submission_from as submission_found, submission_of, submission_shape as submission_is, submission_tests};
 
 use crate::submissions::Submission;
-use cert_check::{Claim, Fills, Mark, Proposal};
+use cert_check::{Claim, Fills, Mark};
+use proposal_check::Proposal;
 use form::{MAX_ORDER, MAX_ORDERS};
 use frac::Frac128;
 use proposals::OrderNumbers;

@@ -1,6 +1,6 @@
 //! What a line proposes for a market.
 
-use cert_check::Proposal;
+use proposal_check::Proposal;
 use proposals::OrderNumbers;
 
 /// A proposal, and the numbers of the live orders that it is for, in their order.

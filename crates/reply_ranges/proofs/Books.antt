@@ -20,7 +20,7 @@ use Rattle.proposal_text.specs.Pieces.{proposal_line, proposal_piece}
 use Rattle.proposal_text.specs.declared.replies.ProposalReply.TheVariants as told
 use Rattle.proposal_text.specs.Within.{IsProposalLineWithin}
 use Rattle.proposal_text.proofs.WrittenProposals.{reply_written}
-use Rattle.cert_check.specs.declared.outcome.Proposal.{Proposal}
+use Rattle.proposal_check.specs.declared.covers.Proposal.{Proposal}
 use Rattle.proposals.specs.Judged.{IsJudgedBound}
 use Rattle.proposal_lines.specs.Laws.{IsRefused}
 use Rattle.proposal_lines.specs.Output.{proposing_reply_line}

@@ -3,9 +3,9 @@
 use Rattle.std.proofs.Common.{◌≡◌, ℕ, List, Bool, true, false, if◌then◌else◌, Option, Some, None, Ok, refl, arith}
 use Rattle.std.proofs.lemmas.Int.{ints}
 use Rattle.arithmetic.proofs.Tests.{int_le-yes}
-use Rattle.cert_check.specs.Proposals.{proposal_bound}
-use Rattle.cert_check.specs.declared.outcome.Proposal.{Proposal}
-use Rattle.cert_check.proofs.Proposals.{proposals_are_decided}
+use Rattle.proposal_check.specs.Proposals.{proposal_bound}
+use Rattle.proposal_check.specs.declared.covers.Proposal.{Proposal}
+use Rattle.proposal_check.proofs.Proposals.{proposals_are_decided}
 use Rattle.exact_num.specs.Fraction.{AtMost, Fraction}
 use Rattle.exact_num.specs.Tests.{is_at_most}
 use Rattle.form.specs.declared.orders.Batch.{Batch}

@@ -3,9 +3,9 @@ use Rattle.std.proofs.Common.{ℕ, List, true, false, if◌then◌else◌, Optio
 use Rattle.std.specs.Prelude.{IfSome}
 use Rattle.std.specs.List.{All, AllByRecursion}
 use Rattle.std.specs.Option.{option_map_or}
-use Rattle.cert_check.specs.Proposals.{proposal_bound}
-use Rattle.cert_check.specs.declared.outcome.Proposal.{Proposal}
-use Rattle.cert_check.specs.declared.outcome.Unproved.{Unproved as Reason}
+use Rattle.proposal_check.specs.Proposals.{proposal_bound}
+use Rattle.proposal_check.specs.declared.covers.Proposal.{Proposal}
+use Rattle.proposal_check.specs.declared.covers.Unproved.{Unproved as Reason}
 use Rattle.exact_num.specs.Fraction.{Fraction}
 use Rattle.exact_num.specs.Tests.{is_at_most}
 use Rattle.form.specs.declared.orders.Batch.{Batch}

@@ -7,11 +7,11 @@ use Rattle.std.proofs.lemmas.Bool.{and_parts}
 use Rattle.std.proofs.lemmas.Int.{ints}
 use Rattle.std.proofs.lemmas.List.Elements.{All-nil, All-cons, All-head, All-tail, All-append, recursion_from_All}
 use Rattle.cash_ledger.specs.Refusals.{account_refusals}
-use Rattle.cert_check.specs.Proposals.{bounded_verdict_of, compared, proposal_bound}
+use Rattle.proposal_check.specs.Proposals.{bounded_verdict_of, compared, proposal_bound}
 use Rattle.clearing.proofs.Values.{fraction_is}
 use Rattle.cert_check.specs.declared.outcome.Judgement.TheVariants as judgement
 use Rattle.cert_check.specs.declared.outcome.Outcome.{Outcome}
-use Rattle.cert_check.specs.declared.outcome.Unproved.{Unproved as Reason}
+use Rattle.proposal_check.specs.declared.covers.Unproved.{Unproved as Reason}
 use Rattle.command_text.specs.declared.asked.Fault.{Fault}
 use Rattle.command_text.specs.declared.asked.Fault.TheVariants.{Syntax, Range}
 use Rattle.command_text.specs.declared.command.Body.TheVariants as body

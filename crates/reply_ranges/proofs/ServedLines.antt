@@ -5,7 +5,7 @@ use Rattle.std.specs.Prelude.{IfOk}
 use Rattle.std.specs.List.{All}
 use Rattle.std.proofs.lemmas.List.Elements.{All-nil}
 use Rattle.cert_check.specs.Laws.{IsCovered}
-use Rattle.cert_check.specs.Proposals.{as_optimal}
+use Rattle.proposal_check.specs.Proposals.{as_outcome}
 use Rattle.clearing_model.specs.Certificate.{IsFill}
 use Rattle.command_text.specs.declared.asked.Fault.{Fault}
 use Rattle.command_text.specs.declared.command.Command.TheVariants.{Clear}
@@ -96,7 +96,7 @@ module _ (lines : ℕ) (state : ProposingState) (line : InputLine) (sound : IsSo
         owed = reply_owed lines exchange running stands.ranged stands.owed said;
       }
 
-  charged_stands : (market budget : ℕ) (better : BoundedOutcome) → refusal_of exchange (Clear market budget) ≡ None → IsCovered (batch_in exchange market) (as_optimal better.proposal)
+  charged_stands : (market budget : ℕ) (better : BoundedOutcome) → refusal_of exchange (Clear market budget) ≡ None → IsCovered (batch_in exchange market) (as_outcome better.proposal)
       → IsStanding (lines + 1) (cleared_with exchange market better.proposal.fills)
   charged_stands market budget better accepted covered =
       let outcome = charged better in
@@ -114,8 +114,8 @@ module _ (lines : ℕ) (state : ProposingState) (line : InputLine) (sound : IsSo
   told_stands : (answer : ProposalAnswer) (after : ProposingState) → IsToldFor state line answer after → KeepsProposalPromises answer → IsStanding (lines + 1) after.exchange
   told_stands (replied answer) after told promise = subst (IsStanding (lines + 1)) (sym told.exchange) run_stands
   told_stands (bounded answer) after told promise =
-      let covered : IsCovered (batch_in exchange answer.market) (as_optimal answer.better.proposal)
-      = subst (λ (b : Batch). IsCovered b (as_optimal answer.better.proposal)) told.batch promise.proves.covered in
+      let covered : IsCovered (batch_in exchange answer.market) (as_outcome answer.better.proposal)
+      = subst (λ (b : Batch). IsCovered b (as_outcome answer.better.proposal)) told.batch promise.proves.covered in
       subst (IsStanding (lines + 1)) (sym told.exchange) (charged_stands answer.market answer.budget answer.better told.accepted covered)
   told_stands (taken answer) after told promise = subst (IsStanding (lines + 1)) (sym told.exchange) (later_exchange lines (lines + 1) exchange (omega arith) stands)
   told_stands (beside number text) after told promise = subst (IsStanding (lines + 1)) (sym told.exchange) (later_exchange lines (lines + 1) exchange (omega arith) stands)

@@ -1,6 +1,6 @@
 use Rattle.std.proofs.Common.{ℕ, List, sym, ap, subst, ◌∙◌}
 use Rattle.std.proofs.lemmas.Result.{IfOk-weaker}
-use Rattle.cert_check.specs.Proposals.{proposal_bound}
+use Rattle.proposal_check.specs.Proposals.{proposal_bound}
 use Rattle.frac.specs.Range.{limit}
 use Rattle.order_book.specs.Numbers.{numbers_of}
 use Rattle.proposals.specs.Best.{are_same_orders}
