@@ -1,3 +1,6 @@
+mod CoverLists
+mod PlainCovers
+mod CheckedCovers
 pub mod PlainProposals
 pub mod WrittenProposals
 mod SoundProposals

@@ -7,7 +7,8 @@ use Rattle.settlement.specs.declared.position.Position.{Position}
 use Rattle.reply_print.specs.BatchPieces.{natural, fraction, pieces_of, leg_piece, order_piece}
 use Rattle.reply_print.specs.Written.{is_plain}
 use Rattle.reply_print.proofs.Digits.{plain-decimal, plain-signed_decimal}
-use Rattle.reply_print.proofs.PlainPieces.{HasPlainTexts, HavePlainTexts, HasPlainFields, each_plain, side_plain, fraction_plain, leg_plain, order_plain, certificate_plain, refused_plain}
+use Rattle.reply_print.proofs.PlainPieces.{HasPlainTexts, HavePlainTexts, HasPlainFields, each_plain, side_plain, fraction_plain, leg_plain, order_plain, refused_plain}
+use Rattle.proposal_text.proofs.PlainCovers.{proof_plain}
 use Rattle.proposal_text.specs.declared.submissions.Submission.{Submission}
 use Rattle.proposal_text.specs.declared.replies.RunStop.{RunStop}
 use Rattle.proposal_text.specs.declared.replies.RunStop.TheVariants as stop
@@ -29,7 +30,7 @@ use Rattle.proposal_text.specs.Needs.{need_text}
 pub submission_plain : (s : Submission) → HasPlainTexts (submission_piece s)
 submission_plain s = (
   refl,
-  certificate_plain s.proposal.cover s.proposal.measure,
+  proof_plain s.proposal.cover s.proposal.measure,
   (
     refl,
     each_plain fraction fraction_plain s.proposal.fills,
@@ -93,7 +94,7 @@ reply_plain line (Positions account market positions) =
 reply_plain line (Proposed market surplus bound best_surplus least_bound) =
     (refl, fraction_plain best_surplus, (refl, fraction_plain bound, (refl, fraction_plain least_bound, (refl, tt, (refl, tt, (refl, refl, (refl, fraction_plain surplus, tt)))))))
 reply_plain line (Bounded number market batch outcome) =
-    (refl, tt, (refl, fraction_plain outcome.bound, (refl, certificate_plain outcome.proposal.cover outcome.proposal.measure, middle_plain line market batch outcome)))
+    (refl, tt, (refl, fraction_plain outcome.bound, (refl, proof_plain outcome.proposal.cover outcome.proposal.measure, middle_plain line market batch outcome)))
 reply_plain line Stale = refused_plain false line 20 0 (codes "Stale") refl
 reply_plain line (Unproved f) = (refl, failed_plain f, (refl, tt, (refl, tt, (refl, refl, (refl, refl, tt)))))
 reply_plain line (Closed market orders) = (refl, tt, (refl, tt, (refl, tt, (refl, refl, tt))))

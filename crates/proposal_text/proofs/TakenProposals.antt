@@ -13,7 +13,6 @@ use Rattle.frac.specs.Range.{limit}
 use Rattle.frac.specs.Value.{fraction_of}
 use Rattle.frac.specs.declared.frac128.Frac128.{Frac128}
 use Rattle.settlement.specs.declared.position.Position.{Position}
-use Rattle.cert_check.specs.declared.outcome.Mark.TheVariants as mark
 use Rattle.proposal_check.specs.declared.covers.Proposal.{Proposal}
 use Rattle.serde_json.specs.Data.{Data, string}
 use Rattle.limits.specs.declared.TheConstants.{MAX_ACCOUNT, MAX_MARKET, MAX_BATCHES}
@@ -31,7 +30,6 @@ use Rattle.reply_text.proofs.FiveTests.{IsTaken, paired}
 use Rattle.reply_text.proofs.Taken.{natural_taken, whole_taken, whole_number, fraction_taken, fraction_number, items_pass, items_taken}
 use Rattle.reply_text.proofs.TakenBatches.{IsWrittenOrder, order_is_order, order_taken, leg_taken, leg_is_leg, bundle_made_of, legs_of, side_is, side_taken, len_within}
 use Rattle.reply_text.proofs.TakenCleared.{batch_taken, claim_taken, cleared_batch_taken, fills_are_texts, fills_are_fractions, fills_taken}
-use Rattle.reply_text.proofs.TakenOutcomes.{certificate_taken, certificate_is, certificate_numbered}
 use Rattle.reply_text.proofs.TakenReplies.{then_taken, line_taken}
 use Rattle.proposal_text.specs.declared.submissions.Submission.{Submission}
 use Rattle.proposal_text.specs.declared.replies.RunStop.{RunStop}
@@ -52,8 +50,9 @@ use Rattle.reply_print.specs.ReplyPieces.{position_piece}
 use Rattle.proposal_text.specs.Pieces.{submission_piece, stop_word, failed_word, tried_mark, proposal_piece}
 use Rattle.proposal_text.specs.ReplyShapes.{position_shape, position_numbers, is_stop, is_failed, is_tried_mark}
 use Rattle.proposal_text.specs.ReplyValues.{are_in_order, filled, position_of, position_from, rising, stop_by_word, bounded_of, failed_by_word, secured_with, not_negative, stopped_by_word, tried_with, proposal_tests}
-use Rattle.proposal_text.specs.Submissions.{proposal_from, order_number_from, few_numbers, submission_with, submission_shape, proposal_numbers, submission_from}
+use Rattle.proposal_text.specs.Submissions.{proposal_from, proposal_of, order_number_from, few_numbers, submission_with, submission_shape, proposal_numbers, submission_from}
 use Rattle.proposal_text.specs.Within.{AreInOrder, AreRising, IsSubmissionWithin, IsPositionWithin, IsProposalLineWithin}
+use Rattle.proposal_text.proofs.CheckedCovers.{proof_is, proof_numbered, proof_taken}
 use Rattle.proposal_text.proofs.RisingNumbers.{are_rise}
 use Rattle.proposal_text.proofs.TakenNeeds.{held_taken, is_number, need_is, need_taken}
 
@@ -62,8 +61,8 @@ use Rattle.proposal_text.proofs.TakenNeeds.{held_taken, is_number, need_is, need
 -- from the parts of any value
 pub parts_taken : (d : Data) (p : Proposal) → list_at (codes "fills") fraction_from d ≡ Some p.fills → take_at (codes "liability") fraction_from d ≡ Some p.claim.liability
     → take_at (codes "surplus") fraction_from d ≡ Some p.claim.surplus
-    → take_at (codes "certificate") certificate_from d ≡ Some (mark.Optimal p.cover p.measure) → proposal_from d ≡ Some p
-parts_taken d p f l s c = then_taken _ _ p.claim _ (claim_taken d p.claim l s) (then_taken _ _ p.fills _ f (then_taken _ _ (mark.Optimal p.cover p.measure) _ c refl))
+    → option_and_then (proposal_of p.claim p.fills) (take_at (codes "certificate") certificate_from d) ≡ Some p → proposal_from d ≡ Some p
+parts_taken d p f l s c = then_taken _ _ p.claim _ (claim_taken d p.claim l s) (then_taken _ _ p.fills _ f c)
 
 number_taken : (n : ℕ) → IsOrderNumber n → order_number_from (piece_data (natural n)) ≡ Some n
 number_taken n h = natural_taken 1 MAX_ORDER n h
@@ -75,12 +74,12 @@ module _ (s : Submission) (h : IsSubmissionWithin s) where
   pub submission_is : submission_shape (piece_data (submission_piece s)) ≡ true
   submission_is =
       and_from _ _
-      (and_from _ _ (certificate_is s.proposal.cover s.proposal.measure h.0.0 h.0.1) (and_from _ _ (fills_are_texts s.proposal.fills) refl))
+      (and_from _ _ (proof_is s.proposal.cover s.proposal.measure h.0.0 h.0.1) (and_from _ _ (fills_are_texts s.proposal.fills) refl))
       (items_pass IsOrderNumber natural is_whole number_is_whole s.orders h.2)
 
   pub submission_numbered : proposal_numbers (piece_data (submission_piece s)) ≡ true
   submission_numbered =
-      and_from _ _ (certificate_numbered s.proposal.cover s.proposal.measure h.0.0 h.0.1)
+      and_from _ _ (proof_numbered s.proposal.cover s.proposal.measure h.0.0 h.0.1)
       (and_from _ _ (fills_are_fractions s.proposal.fills) (and_from _ _ (fraction_number s.proposal.claim.liability) (fraction_number s.proposal.claim.surplus)))
 
   numbers_taken : option_and_then few_numbers (items_map order_number_from (pieces_data (pieces_of natural s.orders))) ≡ Some s.orders
@@ -91,7 +90,7 @@ module _ (s : Submission) (h : IsSubmissionWithin s) where
       then_taken _ _ s.orders _ numbers_taken
       (ap (option_map (submission_with s.orders))
       (parts_taken (piece_data (submission_piece s)) s.proposal (fills_taken s.proposal.fills) (fraction_taken s.proposal.claim.liability) (fraction_taken s.proposal.claim.surplus)
-      (certificate_taken s.proposal.cover s.proposal.measure h.0.0 h.0.1)))
+      (proof_taken s.proposal h.0)))
 
 -- ---- orders and positions
 
@@ -227,10 +226,10 @@ bounded_taken line number market batch outcome h =
     let d = piece_data (proposal_piece line (Bounded number market batch outcome)) in
     record {
       shape = and_from _ _
-          (and_from _ _ (certificate_is p.cover p.measure c.0 c.1) (and_from _ _ (fills_are_texts p.fills) refl))
+          (and_from _ _ (proof_is p.cover p.measure c.0 c.1) (and_from _ _ (fills_are_texts p.fills) refl))
           (and_from _ _ (stop_is outcome.run) (and_from _ _ (orders_are batch.orders b.2) refl));
       numbers = and_from _ _ (fraction_number outcome.bound)
-          (and_from _ _ (certificate_numbered p.cover p.measure c.0 c.1)
+          (and_from _ _ (proof_numbered p.cover p.measure c.0 c.1)
           (and_from _ _ (fills_are_fractions p.fills) (and_from _ _ (fraction_number p.claim.liability) (fraction_number p.claim.surplus))));
       taken = paired _ _ line _ (line_taken line h.0)
           (then_taken _ _ (cleared_batch_of number market batch) _
@@ -239,7 +238,7 @@ bounded_taken line number market batch outcome h =
           (then_taken _ _ outcome.bound _ (fraction_taken outcome.bound)
           (then_taken _ _ outcome.units _ (natural_taken 0 MAX_BUDGET outcome.units (omega arith, h.1.3.0))
           (ap (option_map (bounded_of (stop_by_word (stop_word outcome.run)) outcome.bound outcome.units))
-          (parts_taken d p (fills_taken p.fills) (fraction_taken p.claim.liability) (fraction_taken p.claim.surplus) (certificate_taken p.cover p.measure c.0 c.1))
+          (parts_taken d p (fills_taken p.fills) (fraction_taken p.claim.liability) (fraction_taken p.claim.surplus) (proof_taken p c))
           ∙ ap (λ run. Some (bounded_of run outcome.bound outcome.units p)) (stop_taken outcome.run))))));
     }
 

@@ -11,7 +11,7 @@ use Rattle.reply_print.specs.Within.{IsLine, IsMarket, IsOrderWithin, IsBatchWit
 use Rattle.reply_print.specs.Written.{IsWritten, AreWritten, HasWritten}
 use Rattle.reply_print.proofs.Digits.{plain-decimal, plain-signed_decimal}
 use Rattle.reply_print.proofs.PlainPieces.{side_plain, fraction_plain}
-use Rattle.reply_print.proofs.WrittenReplies.{short, each_written, fills_written, IsLegWithin, legs_within, leg_written, order_written, certificate_written}
+use Rattle.reply_print.proofs.WrittenReplies.{short, each_written, fills_written, IsLegWithin, legs_within, leg_written, order_written}
 use Rattle.proposal_text.specs.declared.submissions.Submission.{Submission}
 use Rattle.proposal_text.specs.declared.replies.BoundedOutcome.{BoundedOutcome}
 use Rattle.proposal_text.specs.declared.replies.AccountReply.{AccountReply}
@@ -23,6 +23,7 @@ use Rattle.proposal_text.specs.declared.replies.ProposalReply.TheVariants.{Book,
 use Rattle.reply_print.specs.ReplyPieces.{position_piece, refused_with}
 use Rattle.proposal_text.specs.Pieces.{submission_piece, bounded_end, bounded_middle, account_piece, bar_number, bar_word, proposal_piece}
 use Rattle.proposal_text.specs.Within.{IsSubmissionWithin, IsPositionWithin, IsBoundedWithin, IsAccountReplyWithin, IsProposalLineWithin}
+use Rattle.proposal_text.proofs.CheckedCovers.{proof_written}
 use Rattle.proposal_text.proofs.PlainProposals.{stop_plain, failed_plain, need_plain, mark_plain}
 
 pub submission_written : (s : Submission) → IsSubmissionWithin s → IsWritten 6 (submission_piece s)
@@ -30,7 +31,7 @@ submission_written s h = (
   refl,
   (
     refl,
-    certificate_written s.proposal.cover s.proposal.measure h.0.0 h.0.1,
+    proof_written s.proposal.cover s.proposal.measure h.0.0 h.0.1,
     (
       refl,
       fills_written s.proposal.fills,
@@ -181,7 +182,7 @@ reply_written line (Bounded number market batch outcome) h = (
       fraction_plain outcome.bound,
       (
         refl,
-        certificate_written outcome.proposal.cover outcome.proposal.measure h.1.3.1.0 h.1.3.1.1,
+        proof_written outcome.proposal.cover outcome.proposal.measure h.1.3.1.0 h.1.3.1.1,
         middle_written line market batch outcome h.0 h.1.1 h.1.2 h.1.3,
       ),
     ),

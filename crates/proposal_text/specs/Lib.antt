@@ -1,4 +1,5 @@
 pub mod Needs
+pub mod CoverPieces
 pub mod Pieces
 pub mod Within
 pub mod Submissions

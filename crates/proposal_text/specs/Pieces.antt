@@ -7,9 +7,9 @@ use Rattle.proposal_check.specs.declared.covers.Unproved.TheVariants as unproved
 use Rattle.frac.specs.declared.frac128.Frac128.{Frac128}
 use Rattle.settlement.specs.declared.position.Position.{Position}
 use Rattle.reply_print.specs.BatchPieces.{natural, whole_words, fraction, each, order_piece}
-use Rattle.reply_print.specs.OutcomePieces.{certificate_piece}
 use Rattle.reply_print.specs.Piece.{Piece, words, truth, object, Fields, no_fields, field, piece_text}
 use Rattle.reply_print.specs.ReplyPieces.{position_piece, refused_with}
+use Rattle.proposal_text.specs.CoverPieces.{proof_piece}
 use Rattle.proposal_text.specs.declared.needs.Need.{Need}
 use Rattle.proposal_text.specs.declared.needs.Need.TheVariants as need
 use Rattle.proposal_text.specs.declared.submissions.Submission.{Submission}
@@ -32,7 +32,7 @@ use Rattle.proposal_text.specs.Needs.{need_text}
 
 abbrev pub submission_piece : Submission → Piece
 submission_piece s =
-    object (field (codes "certificate") (certificate_piece s.proposal.cover s.proposal.measure)
+    object (field (codes "certificate") (proof_piece s.proposal.cover s.proposal.measure)
     (field (codes "fills") (each fraction s.proposal.fills)
     (field (codes "liability") (fraction s.proposal.claim.liability)
     (field (codes "orders") (each natural s.orders)
@@ -99,7 +99,7 @@ abbrev pub bounded_piece : ℕ → ℕ → ℕ → Batch → BoundedOutcome → 
 bounded_piece line number market batch outcome =
     object (field (codes "batch") (natural number)
     (field (codes "bound") (fraction outcome.bound)
-    (field (codes "certificate") (certificate_piece outcome.proposal.cover outcome.proposal.measure) (bounded_middle line market batch outcome))))
+    (field (codes "certificate") (proof_piece outcome.proposal.cover outcome.proposal.measure) (bounded_middle line market batch outcome))))
 
 abbrev pub failed_word : Failed → List ℕ
 failed_word failed.BatchShape = codes "BatchShape"

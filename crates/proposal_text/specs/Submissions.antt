@@ -8,6 +8,7 @@ use Rattle.cert_check.specs.declared.outcome.Claim.{Claim}
 use Rattle.cert_check.specs.declared.outcome.Mark.{Mark}
 use Rattle.cert_check.specs.declared.outcome.Mark.TheVariants.{Optimal, Wide, Budget}
 use Rattle.proposal_check.specs.declared.covers.Proposal.{Proposal}
+use Rattle.proposal_check.specs.Proposals.{proposal_by}
 use Rattle.serde_json.specs.Data.{Data}
 use Rattle.serde_json.specs.Find.{as_number, as_u64}
 use Rattle.reply_print.specs.ClearedShape.{certificate_shape}
@@ -34,7 +35,7 @@ proposal_numbers d =
 
 -- the proposal of a certificate, which is that of the mark optimal
 abbrev pub proposal_of : Claim → List Frac128 → Mark → Option Proposal
-proposal_of claim fills (Optimal cover measure) = Some (record { fills = fills; claim = claim; cover = cover; measure = measure })
+proposal_of claim fills (Optimal cover measure) = Some (proposal_by fills claim cover measure)
 proposal_of claim fills (Wide w) = None
 proposal_of claim fills Budget = None
 

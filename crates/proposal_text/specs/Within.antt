@@ -12,6 +12,8 @@ use Rattle.form.specs.Bundles.{legs_in}
 use Rattle.form.specs.Limits.{IsListed}
 use Rattle.form.specs.Payoff.{option_of}
 use Rattle.proposal_check.specs.declared.covers.Proposal.{Proposal}
+use Rattle.proposal_check.specs.declared.covers.ProposalCover.{ProposalCover}
+use Rattle.proposal_check.specs.declared.covers.ProposalCover.TheVariants.{Checked, Match, Cells}
 use Rattle.settlement.specs.declared.position.Position.{Position}
 use Rattle.reply_print.specs.Within.{IsLine, IsAccount, IsMarket, IsSmall, IsOrderNumber, IsBatchNumber, IsBatchWithin, IsCoverWithin, IsPointWithin}
 use Rattle.proposal_text.specs.declared.submissions.Submission.{Submission}
@@ -22,9 +24,15 @@ use Rattle.proposal_text.specs.declared.replies.ProposalReply.{ProposalReply}
 use Rattle.proposal_text.specs.declared.replies.ProposalReply.TheVariants.{Book, Positions, Proposed, Bounded, Stale, Unproved, Closed, Reopened, MarketIsClosed, MarketIsOpen, Account, Tried, Barred}
 use Rattle.proposal_text.specs.Needs.{IsNeedWithin}
 
+-- no line has a match or cells yet
+abbrev pub IsProposalCoverWithin : ProposalCover → Type 0
+IsProposalCoverWithin (Checked cover) = IsCoverWithin cover
+IsProposalCoverWithin Match = ⊥
+IsProposalCoverWithin (Cells nodes) = ⊥
+
 -- a cover and a measure of numbers of 128 bits
 abbrev pub IsProposalWithin : Proposal → Type 0
-IsProposalWithin proposal = IsCoverWithin proposal.cover × AllByRecursion IsPointWithin proposal.measure.points
+IsProposalWithin proposal = IsProposalCoverWithin proposal.cover × AllByRecursion IsPointWithin proposal.measure.points
 
 -- for at most 256 orders
 abbrev pub IsSubmissionWithin : Submission → Type 0

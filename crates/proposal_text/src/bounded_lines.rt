@@ -3,10 +3,10 @@ ghost use Rattle.std.specs.Prelude.{true, ◌≡◌, ◌++◌, OnOk};
 ghost use Rattle.reply_print.specs.Piece.{fields_text, no_fields, piece_text};
 ghost use Rattle.proposal_text.specs.Pieces.{bounded_end, bounded_middle, bounded_piece, stop_word};
 
+use crate::cover_text::add_proof;
 use crate::replies::{BoundedOutcome, RunStop};
 use form::Batch;
 use reply_print::printed_orders::add_orders;
-use reply_print::printed_outcomes::add_certificate;
 use reply_print::printing::{add_field, add_items, add_key, add_number, add_words, append};
 use std::alloc::AllocError;
 
@@ -69,7 +69,7 @@ pub(crate) fn add_bounded(
     add_number(line, false, "batch", u64::from(number))?;
     add_field(line, true, "bound", &outcome.bound)?;
     add_key(line, true, "certificate")?;
-    add_certificate(line, &outcome.proposal.cover, &outcome.proposal.measure)?;
+    add_proof(line, &outcome.proposal.cover, &outcome.proposal.measure)?;
     add_middle(line, at, market, batch, outcome)?;
     append(line, "}")
 }

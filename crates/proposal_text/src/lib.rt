@@ -4,6 +4,7 @@
 
 mod account_lines;
 mod bounded_lines;
+mod cover_text;
 pub mod laws;
 pub mod needs;
 mod printing;

@@ -7,10 +7,10 @@ ghost use Rattle.proposal_text.specs.Pieces.{failed_as};
 
 use crate::needs::Need;
 use cert_check::No;
-use proposal_check::{Proposal, Unproved};
 use form::Batch;
 use frac::Frac128;
 use lists::List;
+use proposal_check::{Proposal, Unproved};
 use settlement::Position;
 
 /// The positions of an account in a market, in the order in which they were added, which contracts

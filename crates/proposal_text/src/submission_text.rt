@@ -9,16 +9,16 @@ ghost use Rattle.proposal_text.specs.Pieces.{submission_piece, submission_text};
 ghost use Rattle.proposal_text.specs.declared.submissions.Submission.{Submission};
 ghost use Rattle.proposal_text.specs.Submissions.{IsTextOf, order_number_from as number_found, order_numbers_at as numbers_found, proposal_from as proposal_found, proposal_of, proposal_numbers as numbers_are, proposal_shape as shape_is, submission_from as submission_found, submission_of, submission_shape as submission_is, submission_tests};
 
+use crate::cover_text::add_proof;
 use crate::submissions::Submission;
 use cert_check::{Claim, Fills, Mark};
-use proposal_check::Proposal;
 use form::{MAX_ORDER, MAX_ORDERS};
 use frac::Frac128;
+use proposal_check::{Proposal, ProposalCover};
 use proposals::OrderNumbers;
 use reply_print::cleared_numbers::{are_fills, certificate_numbers, has_fraction};
 use reply_print::cleared_shape::{are_texts, certificate_shape};
 use reply_print::look::{has_members, has_text, is_list, is_whole};
-use reply_print::printed_outcomes::add_certificate;
 use reply_print::printing::{add_field, add_items, add_key, append};
 use reply_text::LineFault;
 use reply_text::certificate_values::{certificate_at, claim_at, fills_at};
@@ -36,7 +36,7 @@ fn add_submission(line: &mut Vec<u8>, submission: &Submission) -> Result<(), All
     let proposal = &submission.proposal;
     append(line, "{")?;
     add_key(line, false, "certificate")?;
-    add_certificate(line, &proposal.cover, &proposal.measure)?;
+    add_proof(line, &proposal.cover, &proposal.measure)?;
     add_items(line, true, "fills", proposal.fills.as_slice())?;
     add_field(line, true, "liability", &proposal.claim.liability)?;
     add_items(line, true, "orders", submission.orders.as_slice())?;
@@ -95,7 +95,7 @@ fn proposal_under(claim: Claim, fills: Vec<Frac128>, mark: Mark) -> Option<Propo
         Mark::Optimal { cover, measure } => Some(Proposal {
             fills: Fills::from_vec(fills),
             claim,
-            cover,
+            cover: ProposalCover::Checked(cover),
             measure,
         }),
         Mark::Wide(_) => None,

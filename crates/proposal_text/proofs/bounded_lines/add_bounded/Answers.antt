@@ -2,7 +2,7 @@ use Rattle.std.proofs.Common.{true, codes, ◌∙◌}
 use Rattle.std.proofs.lemmas.Result.{on_ok_weaker}
 use Rattle.reply_print.specs.BatchPieces.{fraction}
 use Rattle.reply_print.specs.Piece.{field}
-use Rattle.reply_print.specs.OutcomePieces.{certificate_piece}
+use Rattle.proposal_text.specs.CoverPieces.{proof_piece}
 use Rattle.proposal_text.specs.Pieces.{bounded_middle, bounded_piece}
 use Rattle.reply_print.proofs.Behind.{closed, field_added, fields_of}
 use Rattle.proposal_text.proofs.bounded_lines.add_bounded.Goals as goal
@@ -11,10 +11,10 @@ pub returns : goal.returns
 returns c =
     let outcome = c.args.outcome.now in
     let middle = bounded_middle c.args.at c.args.market c.args.batch.now outcome in
-    let proof = certificate_piece outcome.proposal.cover outcome.proposal.measure in
+    let proof = proof_piece outcome.proposal.cover outcome.proposal.measure in
     let certificate = field (codes "certificate") proof middle in
     let bound = field (codes "bound") (fraction outcome.bound) certificate in
-    let added = field_added c.add_field.new.line.items c.add_key.new.line.items c.add_certificate.new.line.items true (codes "certificate") proof c.in_ok-add_key.ensures c.in_ok-add_certificate.ensures in
+    let added = field_added c.add_field.new.line.items c.add_key.new.line.items c.add_proof.new.line.items true (codes "certificate") proof c.in_ok-add_key.ensures c.in_ok-add_proof.ensures in
     let fields =
     c.in_ok-add_middle.ensures ∙ added middle ∙ c.in_ok-add_field.ensures certificate ∙ c.in_ok-add_number.ensures bound in
     on_ok_weaker c.append-2.result
