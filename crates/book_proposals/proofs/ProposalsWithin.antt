@@ -16,10 +16,12 @@ use Rattle.sign_tree.specs.declared.trees.Multiplier.{Multiplier}
 use Rattle.cert_check.specs.declared.outcome.Cover.{Cover}
 use Rattle.cert_check.specs.declared.outcome.Cover.TheVariants.{Line, Tree}
 use Rattle.proposal_check.specs.declared.covers.Proposal.{Proposal}
+use Rattle.proposal_check.specs.declared.covers.ProposalCover.{ProposalCover}
+use Rattle.proposal_check.specs.declared.covers.ProposalCover.TheVariants.{Checked, Match, Cells}
 use Rattle.reply_print.specs.OutcomePieces.{state_entries}
-use Rattle.proposals.specs.Judged.{IsBareCover, ProposesNothing, zero_prices}
+use Rattle.proposals.specs.Judged.{IsBare, IsBareCover, ProposesNothing, zero_prices}
 use Rattle.reply_print.specs.Within.{IsBatchWithin, IsCoverWithin, IsNodeWithin, IsOrderNumber, IsOrderWithin, IsPlace, IsPointWithin, IsSmall, leaves_of}
-use Rattle.proposal_text.specs.Within.{IsProposalWithin, IsSubmissionWithin}
+use Rattle.proposal_text.specs.Within.{IsProposalCoverWithin, IsProposalWithin, IsSubmissionWithin}
 use Rattle.book_proposals.specs.Answers.{submission_for}
 
 -- ---- a proposal of nothing
@@ -63,9 +65,14 @@ bare_within n (Tree tree) bare = (
   ap leaves_of bare.1 ∙ sym (ap length bare.2),
 )
 
+covered_within : (n : ℕ) (cover : ProposalCover) → IsBare n cover → IsProposalCoverWithin cover
+covered_within n (Checked cover) bare = bare_within n cover bare
+covered_within n Match bare = absurd bare
+covered_within n (Cells nodes) bare = absurd bare
+
 pub nothing_within : (batch : Batch) (proposal : Proposal) → ProposesNothing batch proposal → IsProposalWithin proposal
 nothing_within batch proposal is =
-    (bare_within batch.underlyings proposal.cover is.cover, zero_prices_within batch.underlyings proposal.measure.points is.measure)
+    (covered_within batch.underlyings proposal.cover is.cover, zero_prices_within batch.underlyings proposal.measure.points is.measure)
 
 -- ---- what is handed in
 numbers_within : (orders : List Order) → AllByRecursion IsOrderWithin orders → AllByRecursion IsOrderNumber (map (λ (order : Order). order.id) orders)

@@ -16,13 +16,16 @@ use Rattle.cert_check.specs.Points.{point_of}
 use Rattle.cert_check.specs.declared.outcome.Cover.{Cover}
 use Rattle.cert_check.specs.declared.outcome.Cover.TheVariants.{Line, Tree}
 use Rattle.proposal_check.specs.declared.covers.Proposal.{Proposal}
-use Rattle.proposals.specs.Judged.{IsBareCover, ProposesNothing}
+use Rattle.proposal_check.specs.declared.covers.ProposalCover.{ProposalCover}
+use Rattle.proposal_check.specs.declared.covers.ProposalCover.TheVariants.{Checked, Match, Cells}
+use Rattle.proposals.specs.Judged.{IsBare, IsBareCover, ProposesNothing}
 use Rattle.live_lines.specs.Open.{IsOneLine}
 use Rattle.limits.specs.declared.TheConstants.{MAX_BYTES}
 use Rattle.live_lines.proofs.OneLine.{one_append}
 use Rattle.reply_print.specs.BatchPieces.{each, fraction, natural, pieces_of, whole_words}
 use Rattle.reply_print.specs.Numbers.{fraction_text}
-use Rattle.reply_print.specs.OutcomePieces.{certificate_piece, cover_piece, node_pieces, point_piece, state_entries}
+use Rattle.reply_print.specs.OutcomePieces.{cover_piece, node_pieces, point_piece, state_entries}
+use Rattle.proposal_text.specs.CoverPieces.{proof_piece, proposal_cover_piece}
 use Rattle.reply_print.specs.Piece.{Fields, Piece, comma_after, field, fields_text, list, no_fields, piece_text, pieces_text, whole, words}
 use Rattle.reply_print.specs.Within.{IsBatchWithin, IsMarket, IsOrderNumber, IsPointWithin, IsSmall}
 use Rattle.reply_print.proofs.Ascii.{piece_has_no_feed}
@@ -119,17 +122,22 @@ cover_size : (n : ℕ) (cover : Cover) → IsBareCover n cover → size (cover_p
 cover_size n Line bare = omega arith
 cover_size n (Tree tree) bare = subst (λ nodes. size (list (node_pieces nodes tree.multipliers)) ≤ 20) (sym bare.1) (omega arith)
 
+covered_size : (n : ℕ) (cover : ProposalCover) → IsBare n cover → size (proposal_cover_piece cover) ≤ 20
+covered_size n (Checked cover) bare = cover_size n cover bare
+covered_size n Match bare = absurd bare
+covered_size n (Cells nodes) bare = absurd bare
+
 module _ (batch : Batch) (proposal : Proposal) (ranges : IsBatchWithin batch) (nothing : ProposesNothing batch proposal) where
-  certificate_size : size (certificate_piece proposal.cover proposal.measure) ≤ 1100
+  certificate_size : size (proof_piece proposal.cover proposal.measure) ≤ 1100
   certificate_size =
       let points = proposal.measure.points in
       let one : length points ≡ 1 = omega (arith, length-map points point_of, ap length nothing.measure) in
       let measured = field (codes "measure") (each point_piece points) no_fields in
       omega (
         arith,
-        cover_size batch.underlyings proposal.cover nothing.cover,
+        covered_size batch.underlyings proposal.cover nothing.cover,
         points_size points one (nothing_within batch proposal nothing).1,
-        fields_size false (codes "cover") (cover_piece proposal.cover) measured,
+        fields_size false (codes "cover") (proposal_cover_piece proposal.cover) measured,
         fields_size true (codes "measure") (each point_piece points) no_fields,
       )
 
@@ -159,7 +167,7 @@ module _ (batch : Batch) (proposal : Proposal) (ranges : IsBatchWithin batch) (n
         fraction_size claim.liability,
         orders_size,
         fraction_size claim.surplus,
-        fields_size false (codes "certificate") (certificate_piece proposal.cover proposal.measure) fills,
+        fields_size false (codes "certificate") (proof_piece proposal.cover proposal.measure) fills,
         fields_size true (codes "fills") (each fraction proposal.fills) liability,
         fields_size true (codes "liability") (fraction claim.liability) orders,
         fields_size true (codes "orders") (each natural (submission_for batch proposal).orders) surplus,

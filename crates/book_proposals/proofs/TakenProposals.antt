@@ -4,8 +4,8 @@ use Rattle.std.proofs.Common.{◌≡◌, ℕ, List, [], ◌∷◌, Bool, true, f
 use Rattle.std.specs.Prelude.{IsOk}
 use Rattle.std.specs.Option.{option_map_or}
 use Rattle.std.proofs.lemmas.Slice.Eq.{bytes_eq-Decides}
-use Rattle.proposal_check.specs.Proposals.{as_outcome, covered_bound, fitting, measured_bound, proposal_bound, proposal_covered, require}
-use Rattle.cert_check.specs.Shape.{are_fills, has_shape}
+use Rattle.proposal_check.specs.Proposals.{covered_bound, fitting, has_shape, measured_bound, proposal_bound, proposal_covered, require}
+use Rattle.cert_check.specs.Shape.{are_fills}
 use Rattle.cert_check.specs.Tests.{measure_holds}
 use Rattle.cert_check.specs.declared.outcome.No.{No}
 use Rattle.cert_check.specs.declared.outcome.No.TheVariants as no
@@ -95,7 +95,7 @@ judged_number batch proposal B h =
     let covered = covered_bound limit batch proposal in
     let fills = require no.Fill (Ok (are_fills batch.orders proposal.fills)) covered in
     let measured = measured_bound limit batch.orders proposal.measure in
-    let filled = required no.BatchShape (Ok (has_shape batch (as_outcome proposal))) fills B h in
+    let filled = required no.BatchShape (Ok (has_shape batch proposal)) fills B h in
     let behind = required no.Fill (Ok (are_fills batch.orders proposal.fills)) covered B filled in
     let bounded = required no.Cover (proposal_covered limit batch proposal) measured B behind in
     let fits = required no.Measure (measure_holds limit points) (fitting (bound_of limit batch.orders points)) B bounded in

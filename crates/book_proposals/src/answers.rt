@@ -4,14 +4,15 @@ ghost use Rattle.form.specs.declared.orders.Order.{Order};
 ghost use Rattle.form.specs.Limits.{IsWithinLimits};
 ghost use Rattle.limits.specs.declared.TheConstants.{MAX_BYTES};
 ghost use Rattle.reply_print.specs.Within.{IsBatchWithin};
+ghost use Rattle.proposal_text.specs.Within.{IsProposalWithin};
 ghost use Rattle.book_proposals.specs.Answers.{IsAnswerTo, IsProposed, proposing_text, submission_for};
 
 use crate::books::book_of;
-use proposal_check::Proposal;
 use form::{Batch, Order};
 use itoa::Buffer;
 use limits::MAX_BYTES;
 use near_solver::propose;
+use proposal_check::{Proposal, ProposalCover};
 use proposal_text::{Submission, print_submission};
 use proposals::{OrderNumbers, nothing};
 use quick_reader::ranges::is_certificate_within;
@@ -50,7 +51,7 @@ fn found_line(alloc: Global, market: u32, batch: &Batch) -> Result<Option<Vec<u8
     ensures { IfOk result (λ line. IfSome line (λ text. IsProposed market batch.now text.items)) }
 {
     let proposal = propose(alloc, batch)?;
-    if !is_certificate_within(&proposal.cover, &proposal.measure) {
+    if !is_written(&proposal) {
         return Ok(None);
     }
     let line = proposing_line(alloc, market, batch, proposal)?;
@@ -58,6 +59,17 @@ fn found_line(alloc: Global, market: u32, batch: &Batch) -> Result<Option<Vec<u8
         Ok(Some(line))
     } else {
         Ok(None)
+    }
+}
+
+// Yes only where a line has such a cover, and cover and measure are within their ranges.
+fn is_written(proposal: &Proposal) -> bool
+    ensures { IsTrue result → IsProposalWithin proposal.now }
+{
+    match &proposal.cover {
+        ProposalCover::Checked(cover) => is_certificate_within(cover, &proposal.measure),
+        ProposalCover::Match => false,
+        ProposalCover::Cells(_) => false,
     }
 }
 

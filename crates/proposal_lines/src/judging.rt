@@ -9,9 +9,9 @@ ghost use Rattle.proposal_lines.specs.Proposed.{IsJudged, kept_by, offered};
 
 use crate::kept_by_market::KeptByMarket;
 use crate::proposed::Proposed;
-use proposal_check::{Proposal, judge_proposal};
 use form::{Batch, Order};
 use frac::Frac128;
+use proposal_check::{Proposal, judge_proposal};
 use proposal_text::{Failed, ProposalReply, failed_as};
 use sign_tree::leg_count;
 use std::alloc::{AllocError, Global};
@@ -42,7 +42,7 @@ fn judged(
     ensures { IfOk result (IsJudged (proposal_bound limit batch.now proposal.now)) }
 {
     let mut signs = vec![in alloc; 0_i8; leg_count(batch.orders.as_slice())]?;
-    match judge_proposal(batch, proposal, &mut signs) {
+    match judge_proposal(alloc, batch, proposal, &mut signs)? {
         Ok(bound) => Ok(Ok(bound)),
         Err(unproved) => Ok(Err(failed_as(unproved))),
     }

@@ -5,9 +5,9 @@ ghost use Rattle.proposals.specs.Best.{after_offer};
 ghost use Rattle.proposal_lines.specs.KeptByMarket.{best_in, bounded_by, bounded_in, kept_in, left_by, stop_of, with_kept, without_kept};
 
 use cert_check::{Mark, Outcome};
-use proposal_check::Proposal;
 use frac::Frac128;
 use indexmap::IndexMap;
+use proposal_check::Proposal;
 use proposal_text::{BoundedOutcome, RunStop, Submission};
 use proposals::{Best, Kept};
 use std::alloc::{AllocError, Global};

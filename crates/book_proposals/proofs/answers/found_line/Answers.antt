@@ -10,7 +10,7 @@ returns-then-is_short c =
     record {
       proposal = proposal;
       judged = c.in_ok-proposal.ensures.judged;
-      within = submission_within c.args.batch.now proposal c.requires.ranges (c.is_certificate_within.ensures (search rules));
+      within = submission_within c.args.batch.now proposal c.requires.ranges (c.is_written.ensures (search rules));
       is = c.in_ok-line.ensures;
       short = subst (λ (line : List ℕ). length line ≤ MAX_BYTES + 1) c.deref.ensures.value short;
     }
