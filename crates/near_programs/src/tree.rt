@@ -12,6 +12,8 @@ use std::alloc::{AllocError, Global};
 
 // The most nodes of a tree.
 const MOST_NODES: usize = 20_000;
+// The most nodes times legs: a tree with more is not judged.
+const MOST_WALKED: usize = 2_000_000;
 // The bytes of a tree as it is written, about, for each node, and for each node and underlying.
 const NODE_BYTES: usize = 45;
 
@@ -503,9 +505,11 @@ impl Tree {
 
     // Whether it may have no more nodes.
     fn has_most(&self, aim: Aim) -> bool {
+        let nodes = self.nodes.len();
         let slopes = SLOPE_BYTES.saturating_mul(aim.book.underlyings);
         let bytes = NODE_BYTES.saturating_add(slopes);
-        self.nodes.len() >= MOST_NODES || self.nodes.len().saturating_mul(bytes) >= MOST_BYTES
+        let walked = nodes.saturating_add(2).saturating_mul(aim.book.legs.len());
+        nodes >= MOST_NODES || nodes.saturating_mul(bytes) >= MOST_BYTES || walked > MOST_WALKED
     }
 
     // The leg at which an open leaf is split.
