@@ -120,6 +120,10 @@ class Rechecks(unittest.TestCase):
         long = [{"split": 1}] * 2_000
         proposal = Proposal(tuple(it.fills), it.liability, long, measure)
         self.assertEqual(self.failed(batch, proposal), "Cover")
+        most = 2_000_000 // sum(len(order.legs) for order in batch.orders)
+        for count, condition in ((most, "Cover"), (most + 1, "BatchShape")):
+            proposal = Proposal(tuple(it.fills), it.liability, [{"split": 1}] * count, measure)
+            self.assertEqual(self.failed(batch, proposal), condition)
 
 
 @wants("scipy")

@@ -17,6 +17,8 @@ from ragvismo.faults import Unproved
 from ragvismo.orders import Batch, Order
 
 Vector = list[Fraction]
+# The most nodes times legs of a tree in a proposal.
+MOST_WALKED = 2_000_000
 
 
 class HeldLeg(NamedTuple):
@@ -144,6 +146,8 @@ def check_tree(
     nodes: list[dict[str, Any]], legs: Sequence[HeldLeg], liability: Fraction, underlyings: int
 ) -> None:
     """Walks a tree in preorder; `Unproved` at the first leaf that is not closed."""
+    if len(nodes) * len(legs) > MOST_WALKED:
+        raise Unproved("BatchShape", f"{len(nodes)} nodes times {len(legs)} legs are too many")
     most = [liability, *[Fraction(0)] * underlyings]
     ahead: list[dict[int, int]] = [{}]  # the signs above each subtree that is still to come
     for node in nodes:

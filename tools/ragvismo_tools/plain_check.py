@@ -21,6 +21,8 @@ from itertools import pairwise
 from ragvismo_tools.ending import ended
 
 LIMIT = 2**127 - 1
+# The most nodes times legs of a tree in a line marked bounded.
+MOST_WALKED = 2_000_000
 REASONS = (
     "Syntax",
     "NoAccount",
@@ -694,6 +696,8 @@ def judge(reply: Value) -> None:
     )
     demand(all(len(form) == entries for bundle in bundles for _, form in bundle), "BatchShape")
     demand(all(len(state) == entries for state, _ in points), "BatchShape")
+    if reply["mark"] == "bounded" and cover != "line":
+        demand(len(cover) * sum(map(len, bundles)) <= MOST_WALKED, "BatchShape")
     demand(all(0 <= fill <= each["quantity"] for fill, each in zip(fills, listed)), "Fill")
 
     orders = [(fill * sign(each), bundle) for fill, each, bundle in zip(fills, listed, bundles)]

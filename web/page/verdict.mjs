@@ -14,10 +14,13 @@ import {pays, signed} from "./batch.mjs";
 /** @typedef {import("./steps.mjs").Step} Step */
 /** @typedef {[what: string, here: string, holds: boolean]} Demand */
 
+/** The most nodes times legs of a tree in a line marked bounded. */
+const MOST_WALKED = 2_000_000;
+
 /** What must be so of the lengths of a batch's lists.
  * @param {Batch} batch
  * @returns {Demand[]} */
-function demands({certificate, fills, orders, underlyings}) {
+function demands({certificate, fills, mark, orders, underlyings}) {
     const forms = orders.flatMap(order => order.legs.map(leg => leg.form));
     const states = certificate === null ? [] : certificate.measure.map(point => point.state);
     const kind = certificate === null ? null : coverKind(certificate.cover);
@@ -28,7 +31,18 @@ function demands({certificate, fills, orders, underlyings}) {
             kind === null || kind.fits(underlyings)],
         entriesDemand("form", forms, underlyings),
         entriesDemand("state of the measure", states, underlyings),
+        ...mark === "bounded" ? walkedDemands(certificate?.cover, forms.length) : [],
     ];
+}
+
+/** @param {import("./batch.mjs").Cover | undefined} cover @param {number} legs
+ * @returns {Demand[]} */
+function walkedDemands(cover, legs) {
+    if (!Array.isArray(cover)) {
+        return [];
+    }
+    const walked = cover.length * legs;
+    return [["at most 2,000,000 nodes of a tree times legs", `${walked}`, walked <= MOST_WALKED]];
 }
 
 /** @param {string} of @param {bigint[][]} lists @param {number} underlyings
