@@ -6,7 +6,6 @@ pub mod Fallback
 pub mod Decided
 pub mod Certified
 pub mod Yes
-pub mod Proposals
 pub mod WorkedVerdicts
 pub use Rattle.market_laws.proofs.Certificate
 pub use Rattle.market_laws.proofs.Duality

@@ -1,4 +1,4 @@
--- The worked verdicts and proposals, computed from the definitions.
+-- The worked verdicts, computed from the definitions.
 use Rattle.std.proofs.Common.{refl}
 use Rattle.exact_num.specs.Fits.{operations}
 use Rattle.frac.specs.ValueOf.{value_of}
@@ -7,7 +7,7 @@ use Rattle.form.specs.StateOf.{state_of}
 use Rattle.form.specs.BundleOf.{bundle_one, bundle_made}
 use Rattle.form.specs.Payoff.{bundle_of}
 use Rattle.form.specs.Steps.{payoff_of, bundle_payoff_of}
-use Rattle.cert_check.specs.Worked.{VerdictsAsWorked, ProposalsAsWorked}
+use Rattle.cert_check.specs.Worked.{VerdictsAsWorked}
 
 pub verdicts_as_worked : VerdictsAsWorked
 unfolding operations value_of form_of state_of payoff_of bundle_one bundle_made bundle_of bundle_payoff_of
@@ -24,18 +24,4 @@ verdicts_as_worked =
       spread_covered = refl;
       spread_of_another_count = refl;
       spread_after_the_budget = refl;
-    }
-
-pub proposals_as_worked : ProposalsAsWorked
-unfolding operations value_of form_of state_of payoff_of bundle_one bundle_made bundle_of bundle_payoff_of
-proposals_as_worked =
-    record {
-      sound = refl;
-      price_zero_alone = refl;
-      greatest = refl;
-      above_its_quantity = refl;
-      greater_surplus = refl;
-      too_little_mass = refl;
-      bound_told = refl;
-      other_bound_told = refl;
     }

@@ -7,7 +7,5 @@ pub mod Cover
 pub mod Events
 pub mod Conditions
 pub mod Laws
-pub mod Proposals
-pub mod ProposalLaws
 pub mod Worked
 pub use Rattle.line_cover.specs.Breakpoints

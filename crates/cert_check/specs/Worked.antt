@@ -2,7 +2,7 @@
 -- strike 10 is bought at 6, and calls with strikes 5 and 12 are sold at 8 and 4. The spread covered
 -- by two options: one call 10 less one call 12 is bought at 2, a call 10 is sold at 6, and a call
 -- 12 is bought at 5.
-use Rattle.std.specs.Prelude.{ℕ, ◌≡◌, List, [], ◌∷◌, map, ℤ, pos, negsuc, Result, Ok, Err}
+use Rattle.std.specs.Prelude.{ℕ, ◌≡◌, List, [], ◌∷◌, map, ℤ, pos, negsuc}
 use Rattle.exact_num.specs.Fraction.{Fraction, over, whole}
 use Rattle.frac.specs.Range.{limit}
 use Rattle.frac.specs.ValueOf.{value_of}
@@ -19,11 +19,7 @@ use Rattle.cert_check.specs.declared.outcome.No.TheVariants as no
 use Rattle.cert_check.specs.declared.outcome.Outcome.{Outcome}
 use Rattle.cert_check.specs.declared.outcome.Judgement.{Judgement}
 use Rattle.cert_check.specs.declared.outcome.Judgement.TheVariants.{Yes, No}
-use Rattle.cert_check.specs.declared.outcome.Proposal.{Proposal}
-use Rattle.cert_check.specs.declared.outcome.Unproved.{Unproved}
-use Rattle.cert_check.specs.declared.outcome.Unproved.TheVariants as unproved
 use Rattle.cert_check.specs.Events.{verdict_of}
-use Rattle.cert_check.specs.Proposals.{proposal_bound, bounded_verdict_of}
 
 abbrev pub batch : Batch
 batch = record {
@@ -68,22 +64,6 @@ judged_spread count mark =
     let one = whole (pos 1) in
     verdict_of limit (record { underlyings = 1; orders = covered_spread count }) (outcome (one ∷ one ∷ one ∷ []) one mark)
 
--- the bound that a proposal for the butterfly proves
-abbrev proposal : List Fraction → Fraction → Measure → Proposal
-proposal fills surplus measure = record {
-  fills = map value_of fills;
-  claim = record { liability = value_of (whole (pos 0)); surplus = value_of surplus };
-  cover = Line;
-  measure = measure;
-}
-
-abbrev pub proposed : List Fraction → Fraction → Measure → Result Fraction Unproved
-proposed fills surplus measure = proposal_bound limit batch (proposal fills surplus measure)
-
--- the judgement where the bound is told
-abbrev pub told : Fraction → List Fraction → Fraction → Measure → Judgement
-told bound fills surplus measure = bounded_verdict_of limit batch (proposal fills surplus measure) bound
-
 abbrev pub half : Fraction
 half = over (pos 1) 2
 
@@ -109,20 +89,3 @@ pub record VerdictsAsWorked : Type 0 where
   pub spread_of_another_count : judged_spread (pos 1) (optimal half half (whole (pos 5))) ≡ No no.Cover
   -- without the mark: the bundle is bought and not sold, however its options balance
   pub spread_after_the_budget : judged_spread (negsuc 0) Budget ≡ No no.Cover
-
--- half of the butterfly
-abbrev halves : Fraction → List Fraction
-halves first = first ∷ sevenths 1 ∷ over (pos 5) 14 ∷ []
-
-abbrev best_measure : Measure
-best_measure = weighted (sevenths 3) (sevenths 4) (whole (pos 4))
-
-pub record ProposalsAsWorked : Type 0 where
-  pub sound : proposed (halves half) (sevenths 3) best_measure ≡ Ok (sevenths 6)
-  pub price_zero_alone : proposed (halves half) (sevenths 3) (record { points = point (whole (pos 1)) 1 0 ∷ [] }) ≡ Ok (whole (pos 6))
-  pub greatest : proposed fills (sevenths 6) best_measure ≡ Ok (sevenths 6)
-  pub above_its_quantity : proposed (halves (sevenths 8)) (sevenths 3) best_measure ≡ Err (unproved.No no.Fill)
-  pub greater_surplus : proposed (halves half) (sevenths 4) best_measure ≡ Err (unproved.No no.Cover)
-  pub too_little_mass : proposed (halves half) (sevenths 3) (weighted (sevenths 2) (sevenths 4) (whole (pos 4))) ≡ Err (unproved.No no.Measure)
-  pub bound_told : told (sevenths 6) (halves half) (sevenths 3) best_measure ≡ Yes
-  pub other_bound_told : told (whole (pos 1)) (halves half) (sevenths 3) best_measure ≡ No no.Bound

@@ -8,13 +8,12 @@ ghost use Rattle.sign_tree.specs.Legs.{leg_count};
 ghost use Rattle.sign_tree.specs.declared.closing.TheConstants.{MAX_SIGNS};
 ghost use Rattle.cert_check.specs.Points.{IsOnStates};
 ghost use Rattle.cert_check.specs.Conditions.{IfNo, IsFirstUnmet, Meets, OnYes, conditions};
-ghost use Rattle.cert_check.specs.Events.{cover_condition_holds, judge_cover, judge_mark, judge_measure, verdict_of};
+ghost use Rattle.cert_check.specs.Events.{cover_condition_holds, judge_bound, judge_cover, judge_mark, judge_measure, verdict_of};
 ghost use Rattle.cert_check.specs.Laws.{IsCovered, IsMeasuredIfOptimal, IsProvedIfOptimal};
 ghost use Rattle.cert_check.specs.Tests.{AreSigns};
 ghost use Rattle.cert_check.specs.Shape.{IsMarkOn};
 
-use crate::bounded::{compared, measured_bound};
-use crate::checks::surplus_holds;
+use crate::checks::{bound_holds, measure_holds, surplus_holds};
 use crate::cover::mark_covers;
 use crate::measures::Measure;
 use crate::outcome::{Judgement, Mark, No, Outcome};
@@ -103,5 +102,22 @@ fn judge_measure(batch: &Batch, surplus: &Frac128, measure: &Measure) -> Judgeme
     requires states { IsOnStates batch.now.underlyings measure.now }
     ensures { result ≡ judge_measure limit batch.now.orders (fraction_of surplus.now) measure.now }
 {
-    compared(measured_bound(batch, measure), surplus)
+    match measure_holds(measure) {
+        Ok(true) => judge_bound(batch, surplus, measure),
+        Ok(false) => Judgement::No(No::Measure),
+        Err(wide) => Judgement::Wide(wide),
+    }
+}
+
+// Whether the bound of the measure is the surplus.
+fn judge_bound(batch: &Batch, surplus: &Frac128, measure: &Measure) -> Judgement
+    requires forms { HasItsForms batch.now }
+    requires states { IsOnStates batch.now.underlyings measure.now }
+    ensures { result ≡ judge_bound limit batch.now.orders (fraction_of surplus.now) measure.now }
+{
+    match bound_holds(batch, measure, surplus) {
+        Ok(true) => Judgement::Yes,
+        Ok(false) => Judgement::No(No::Bound),
+        Err(wide) => Judgement::Wide(wide),
+    }
 }

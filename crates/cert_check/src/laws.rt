@@ -1,8 +1,7 @@
 //! What a verdict shows: the contracts of functions that do nothing.
 
 ghost use Rattle.cert_check.specs.Laws.{ConditionsCover, ConditionsMeasure, ConditionsProve, VerdictsDecide, YesCovers, YesHasItsMeasure, YesOnOptimalProves};
-ghost use Rattle.cert_check.specs.ProposalLaws.{HalvesJoin, OptimalIsBounded, ProposalsAreDecided};
-ghost use Rattle.cert_check.specs.Worked.{ProposalsAsWorked, VerdictsAsWorked};
+ghost use Rattle.cert_check.specs.Worked.{VerdictsAsWorked};
 
 /// A yes meets each condition of the model, and a no has the first that is not met.
 pub fn verdicts_decide()
@@ -42,29 +41,8 @@ pub fn yes_on_optimal_proves()
     ensures { YesOnOptimalProves }
 {}
 
-/// A proposal that is judged a bound covers its surplus, and the greatest is from that to the
-/// bound; else what is told of it is the first condition that it does not meet.
-pub fn proposals_are_decided()
-    ensures { ProposalsAreDecided }
-{}
-
-/// The verdict on the mark optimal is that on a bound which is the surplus.
-pub fn optimal_is_bounded()
-    ensures { OptimalIsBounded }
-{}
-
-/// The fills of a proposal with the measure of another prove the bound of the other.
-pub fn halves_join()
-    ensures { HalvesJoin }
-{}
-
 /// The butterfly by two sells and the spread covered by two options, sound and changed, are judged
 /// as they are worked by hand.
 pub fn verdicts_as_worked()
     ensures { VerdictsAsWorked }
-{}
-
-/// Proposals for the butterfly, sound and changed, prove the bounds that are worked by hand.
-pub fn proposals_as_worked()
-    ensures { ProposalsAsWorked }
 {}

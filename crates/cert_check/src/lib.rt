@@ -4,7 +4,6 @@
 #![tactic(auto)]
 
 mod balance;
-mod bounded;
 pub mod bounds;
 pub mod checks;
 mod cover;
@@ -15,7 +14,6 @@ pub mod measure_laws;
 pub mod measures;
 pub mod outcome;
 pub mod prices;
-pub mod proposal;
 mod shape;
 
 pub use balance::fallback_holds;
@@ -24,7 +22,6 @@ pub use checks::{bound_holds, cover_holds, measure_holds, surplus_holds};
 pub use judging::verdict;
 pub use mass::is_measure;
 pub use measures::{Measure, Points, Weighted};
-pub use outcome::{Claim, Cover, Fills, Judgement, Mark, No, Outcome, Proposal, Unproved};
+pub use outcome::{Claim, Cover, Fills, Judgement, Mark, No, Outcome};
 pub use prices::price_of;
-pub use proposal::{bounded_verdict, judge_proposal};
 pub use shape::{are_fills, cover_fits, has_fills, states_have};

@@ -1,7 +1,4 @@
-//! What a clearing answers for a batch, or a solver proposes for it, and the judgement of it.
-
-ghost use Rattle.std.specs.Prelude.{◌≡◌};
-ghost use Rattle.cert_check.specs.declared.outcome.Unproved.TheVariants as unproved;
+//! What a clearing answers for a batch, and the judgement of it.
 
 use crate::measures::Measure;
 use exact_num::Wide;
@@ -60,16 +57,6 @@ impl Drop for Outcome {
     }
 }
 
-/// What a solver, whoever it is, proposes for a batch: fills with their claim, the cover of the
-/// liability, and a measure.
-#[derive(Debug, Drop)]
-pub struct Proposal {
-    pub fills: Fills,
-    pub claim: Claim,
-    pub cover: Cover,
-    pub measure: Measure,
-}
-
 /// The condition that fails.
 #[derive(Clone, Copy, Debug, PartialEq, Eq)]
 pub enum No {
@@ -86,20 +73,4 @@ pub enum Judgement {
     Yes,
     No(No),
     Wide(Wide),
-}
-
-/// Why a proposal proves no bound: the condition that fails first, never that of the bound, or the
-/// step that does not fit.
-#[derive(Clone, Copy, Debug, PartialEq, Eq)]
-pub enum Unproved {
-    No(No),
-    Wide(Wide),
-}
-
-impl From<Wide> for Unproved {
-    ghost from_gives = { λ wide failed. failed ≡ unproved.Wide wide };
-
-    fn from(wide: Wide) -> Self {
-        Unproved::Wide(wide)
-    }
 }

@@ -3,10 +3,9 @@
 ghost use Rattle.std.specs.Prelude.{◌≡◌, ◌+◌, length};
 ghost use Rattle.frac.specs.Value.{fraction_of};
 ghost use Rattle.cert_check.specs.Shape.{are_fills, certificate_fits, cover_fits, forms_have, has_fills, has_shape, is_fill, mark_fits, states_have};
-ghost use Rattle.cert_check.specs.Proposals.{as_optimal};
 
 use crate::measures::{Measure, Weighted};
-use crate::outcome::{Cover, Mark, Outcome, Proposal};
+use crate::outcome::{Cover, Mark, Outcome};
 use exact_num::Exact;
 use form::{Batch, Order};
 use frac::{Frac128, whole};
@@ -17,14 +16,6 @@ pub(crate) fn has_shape(batch: &Batch, outcome: &Outcome) -> bool
     ensures { result ≡ has_shape batch.now outcome.now }
 {
     has_fills(batch, outcome.fills.as_slice()) && mark_fits(batch.underlyings, &outcome.mark)
-}
-
-// The same of a proposal, as of an outcome marked optimal.
-pub(crate) fn has_proposal_shape(batch: &Batch, proposal: &Proposal) -> bool
-    ensures { result ≡ has_shape batch.now (as_optimal proposal.now) }
-{
-    has_fills(batch, proposal.fills.as_slice())
-        && certificate_fits(batch.underlyings, &proposal.cover, &proposal.measure)
 }
 
 /// Whether there are as many fills as orders, and the forms are those of the batch's underlyings.

@@ -1,5 +1,0 @@
-use Rattle.cert_check.proofs.Proposals.{halves_join}
-use Rattle.cert_check.proofs.laws.halves_join.Goals as goal
-
-pub returns : goal.returns
-returns c = halves_join

@@ -1,5 +1,0 @@
-use Rattle.cert_check.proofs.Proposals.{optimal_is_bounded}
-use Rattle.cert_check.proofs.laws.optimal_is_bounded.Goals as goal
-
-pub returns : goal.returns
-returns c = optimal_is_bounded

@@ -1,5 +1,0 @@
-use Rattle.cert_check.proofs.Proposals.{proposals_are_decided}
-use Rattle.cert_check.proofs.laws.proposals_are_decided.Goals as goal
-
-pub returns : goal.returns
-returns c = proposals_are_decided
