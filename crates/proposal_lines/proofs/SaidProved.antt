@@ -1,9 +1,12 @@
 -- What is kept stays proved by what is said otherwise.
 use Rattle.std.proofs.Common.{ℕ, List, Result, inl, inr, sym, ap, subst}
 use Rattle.command_text.specs.declared.asked.Fault.{Fault}
+use Rattle.command_text.specs.declared.command.Body.TheVariants as body
+use Rattle.command_text.specs.declared.command.Command.TheVariants.{Withdraw}
 use Rattle.command_text.specs.declared.requests.Request.{Request}
 use Rattle.command_text.specs.Commands.{body_of_said}
 use Rattle.exchange_core.specs.ExchangeState.{ExchangeState}
+use Rattle.exchange_core.specs.Step.{step}
 use Rattle.proposals.specs.declared.best.Best.{Best}
 use Rattle.proposal_lines.specs.AllKinds.{said_line}
 use Rattle.proposal_lines.specs.KeptByMarket.{KeptProposals}
@@ -21,3 +24,8 @@ said_proved number state said = entries_moved state.book (said_line number state
           | inl run ↦ subst P (sym (ap (λ (r : List ℕ × ExchangeState). r.1) run)) (reply_proved state market best is (body_of_said said))
           | inr beside ↦ subst P (sym beside.1) is
         ]
+
+-- nor by a withdrawal that is answered as a run answers it
+pub withdrawal_proved : (state : ExchangeState) (account amount : ℕ) (kept : KeptProposals) → AreProvedIn state.book kept → AreProvedIn (step state (Withdraw account amount)).1.book kept
+withdrawal_proved state account amount =
+    entries_moved state.book (step state (Withdraw account amount)).1.book (λ market best is. reply_proved state market best is (body.Command (Withdraw account amount)))

@@ -166,7 +166,7 @@ module _ (state : ProposingState) (line : InputLine) (sound : IsSound state) whe
   abbrev run_reply : Reply × ExchangeState
   run_reply = reply_to state.exchange (body_of_line line.bytes)
 
-  replied_told : (now : List ℕ × ProposingState) → now.0 ≡ reply_line line.number run_reply.0 ++ 10 ∷ [] → now.1.exchange ≡ run_reply.1 → now.1.kept ≡ state.kept
+  pub replied_told : (now : List ℕ × ProposingState) → now.0 ≡ reply_line line.number run_reply.0 ++ 10 ∷ [] → now.1.exchange ≡ run_reply.1 → now.1.kept ≡ state.kept
       → IsUnbeaten state run_reply.0 → Told now
   replied_told now text same kept unbeaten =
       let answer = answer_to state.exchange (line_of line) in

@@ -1,11 +1,12 @@
 -- What is written for a line where proposals are taken.
 use Rattle.std.specs.Prelude.{ℕ, List, [], ◌∷◌, ◌++◌, Result, Ok}
 use Rattle.command_text.specs.declared.asked.Fault.{Fault}
-use Rattle.command_text.specs.declared.command.Command.TheVariants.{Clear}
+use Rattle.command_text.specs.declared.command.Command.TheVariants.{Clear, Withdraw}
 use Rattle.command_text.specs.declared.requests.Request.{Request}
 use Rattle.command_text.specs.declared.requests.Request.TheVariants.{Command, Book, Positions, Propose}
 use Rattle.command_text.specs.declared.words.TheConstants.{SERVED}
 use Rattle.command_text.specs.Said.{said_in}
+use Rattle.exchange_core.specs.Step.{step}
 use Rattle.proposal_text.specs.Pieces.{proposal_line}
 use Rattle.reply_print.specs.ReplyPieces.{reply_line}
 use Rattle.proposal_lines.specs.AllKinds.{said_line}
@@ -27,6 +28,14 @@ written_reply number result = (proposing_reply_line number result.0 ++ 10 ∷ []
 -- what is said otherwise is answered as where nothing is read or proposed
 abbrev pub other_line : ℕ → ProposingState → Result Request Fault → List ℕ × ProposingState
 other_line number state said = let now = said_line number state.exchange said in (now.0, record state { exchange = now.1 })
+
+-- a withdrawal is answered as a run answers it, whatever the margins of its account
+abbrev pub withdrawal_reply : ProposingState → ℕ → ℕ → ProposingReply × ProposingState
+withdrawal_reply state account amount =
+    let now = step state.exchange (Withdraw account amount) in (Plain now.0, record state { exchange = now.1 })
+
+abbrev pub withdrawal_line : ℕ → ProposingState → ℕ → ℕ → List ℕ × ProposingState
+withdrawal_line number state account amount = written_reply number (withdrawal_reply state account amount)
 
 -- what is written for a line of these bytes that says this, and the state after it
 abbrev pub served_line : ℕ → ProposingState → List ℕ → Result Request Fault → List ℕ × ProposingState

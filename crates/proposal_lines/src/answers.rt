@@ -1,13 +1,13 @@
 // An exchange that answers all lines and takes proposals.
 ghost use Rattle.std.specs.Prelude.{◌≡◌, ◌≤◌, IfOk, length, Some};
 ghost use Rattle.std.specs.Option.{option_map};
-ghost use Rattle.command_text.specs.Within.{IsBudget, IsInside, RequestIsWithin};
+ghost use Rattle.command_text.specs.Within.{IsAccount, IsAmount, IsBudget, IsInside, RequestIsWithin};
 ghost use Rattle.exchange_core.specs.Kept.{IsKept};
 ghost use Rattle.form.specs.Limits.{IsWithinLimits};
 ghost use Rattle.live_lines.specs.Answering.{by_step};
 ghost use Rattle.order_book.specs.Book.{batch_of, market_of};
 ghost use Rattle.proposal_lines.specs.Clears.{clear_reply};
-ghost use Rattle.proposal_lines.specs.Output.{other_line, proposing_line, served_line, written_reply};
+ghost use Rattle.proposal_lines.specs.Output.{other_line, proposing_line, served_line, withdrawal_line, withdrawal_reply, written_reply};
 ghost use Rattle.proposal_lines.specs.Proposed.{proposed_by, proposed_of, proposed_reply};
 ghost use Rattle.proposal_lines.specs.ProposingState.{empty_state};
 
@@ -165,6 +165,34 @@ impl ProposalLines {
                 Err(error)
             }
         }
+    }
+
+    fn withdraw(&mut self, account: u32, amount: u64) -> Result<ProposingReply, AllocError>
+        requires account { IsAccount account }
+        requires amount { IsAmount amount }
+        ensures { IfOk result (λ reply.
+            (reply, self.new) ≡ withdrawal_reply self.old account amount) }
+    {
+        let reply = self.exchange.step(&Command::Withdraw { account, amount })?;
+        Ok(ProposingReply::Plain(reply))
+    }
+
+    /// The answer of a run to a withdrawal, whatever the margins of its account: of whoever keeps
+    /// withdrawals by another rule. The only error is want of memory.
+    pub fn answer_withdrawal(
+        &mut self,
+        alloc: Global,
+        number: u32,
+        account: u32,
+        amount: u64,
+    ) -> Result<Vec<u8>, AllocError>
+        requires account { IsAccount account }
+        requires amount { IsAmount amount }
+        ensures { IfOk result (λ text.
+            (text.items, self.new) ≡ withdrawal_line number self.old account amount) }
+    {
+        let reply = self.withdraw(account, amount)?;
+        print_line(alloc, number, &reply)
     }
 
     /// The exchange, of which may be asked what it would answer.

@@ -9,7 +9,7 @@ use Rattle.command_text.specs.Said.{said_in}
 use Rattle.auction_phases.specs.Phases.{after_end, bars, ended_in}
 use Rattle.live_lines.specs.Output.{output_of}
 use Rattle.proposal_text.specs.declared.replies.ProposalReply.TheVariants as told
-use Rattle.proposal_lines.specs.Output.{proposing_reply_line, served_line}
+use Rattle.proposal_lines.specs.Output.{proposing_reply_line, served_line, withdrawal_line as proposing_withdrawal}
 use Rattle.proposal_lines.specs.declared.replies.ProposingReply.{ProposingReply}
 use Rattle.proposal_lines.specs.declared.replies.ProposingReply.TheVariants.{Told}
 use Rattle.serve_lines.specs.Phased.{close_reply, exchange_of, reopen_reply}
@@ -22,6 +22,11 @@ written_reply number result = (proposing_reply_line number result.0 ++ 10 ∷ []
 abbrev pub handed_on : ℕ → ServingState → List ℕ → Result Request Fault → Option ℕ → List ℕ × ServingState
 handed_on number state line said ended =
     let now = served_line number state.proposing line said in (now.0, serving_of now.1 (after_end state.closed ended))
+
+-- a withdrawal is answered as a run answers it, and no market's phase changes
+abbrev pub withdrawal_line : ℕ → ServingState → ℕ → ℕ → List ℕ × ServingState
+withdrawal_line number state account amount =
+    let now = proposing_withdrawal number state.proposing account amount in (now.0, serving_of now.1 state.closed)
 
 -- a command that a closed market keeps from the exchange is refused
 abbrev pub command_line : ℕ → ServingState → List ℕ → OneCommand → List ℕ × ServingState

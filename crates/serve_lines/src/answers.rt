@@ -1,9 +1,9 @@
 // An exchange that answers all lines of `serve`.
 ghost use Rattle.std.specs.Prelude.{◌≡◌, IfOk};
 ghost use Rattle.auction_phases.specs.Phases.{bars};
-ghost use Rattle.command_text.specs.Within.{IsInside, IsWithin, RequestIsWithin};
+ghost use Rattle.command_text.specs.Within.{IsAccount, IsAmount, IsInside, IsWithin, RequestIsWithin};
 ghost use Rattle.live_lines.specs.Answering.{by_step};
-ghost use Rattle.serve_lines.specs.Output.{command_line, handed_on, serving_line, serving_said, written_reply};
+ghost use Rattle.serve_lines.specs.Output.{command_line, handed_on, serving_line, serving_said, withdrawal_line, written_reply};
 ghost use Rattle.serve_lines.specs.Phased.{close_reply, exchange_of, reopen_reply};
 ghost use Rattle.serve_lines.specs.ServingState.{empty_serving};
 
@@ -12,6 +12,7 @@ use auction_phases::{Phases, ended_in};
 use command_text::asked::Fault;
 use command_text::words::SERVED;
 use command_text::{Command, Request, read_line};
+use exchange_core::Exchange;
 use live_lines::{LineAnswers, LineSteps};
 use proposal_lines::{ProposalLines, ProposingReply, print_line};
 use proposal_text::ProposalReply;
@@ -88,8 +89,15 @@ impl ServeLines {
         print_line(alloc, number, &reply)
     }
 
-    // Whether a closed market keeps a command from the exchange.
-    fn bars(&self, command: &Command) -> bool
+    /// The exchange, of which may be asked what it would answer.
+    pub fn exchange(&self) -> &Exchange
+        ensures { result.now ≡ exchange_of self.now }
+    {
+        self.proposals.exchange()
+    }
+
+    /// Whether a closed market keeps a command from the exchange.
+    pub fn bars(&self, command: &Command) -> bool
         requires { IsWithin command.now }
         ensures { result ≡ bars self.now.closed (exchange_of self.now) command.now }
     {
@@ -136,8 +144,25 @@ impl ServeLines {
         self.hand_on(alloc, number, line, Ok(Request::Command(command)), ended)
     }
 
-    // The answer to a line of these bytes that says this.
-    fn answer_said(
+    /// The answer of a run to a withdrawal, whatever the margins of its account. The only error is
+    /// want of memory.
+    pub fn answer_withdrawal(
+        &mut self,
+        alloc: Global,
+        number: u32,
+        account: u32,
+        amount: u64,
+    ) -> Result<Vec<u8>, AllocError>
+        requires account { IsAccount account }
+        requires amount { IsAmount amount }
+        ensures { IfOk result (λ text.
+            (text.items, self.new) ≡ withdrawal_line number self.old account amount) }
+    {
+        self.proposals.answer_withdrawal(alloc, number, account, amount)
+    }
+
+    /// The answer to a line of these bytes that says this. The only error is want of memory.
+    pub fn answer_said(
         &mut self,
         alloc: Global,
         number: u32,

@@ -1,0 +1,5 @@
+pub mod SecuredState
+pub mod Replies
+pub mod Output
+pub mod Laws
+pub mod Promises

@@ -1,0 +1,67 @@
+-- What is promised of the bytes that are written where accounts may be secured.
+use Rattle.std.specs.Prelude.{ℕ, ◌≡◌, ⊤, true, false, List, [], ◌∷◌, nat_eq, Result, Ok}
+use Rattle.std.specs.List.{All}
+use Rattle.std.specs.Option.{option_map_or}
+use Rattle.auction_phases.specs.Laws.{StandsStill}
+use Rattle.auction_phases.specs.Phases.{is_closed}
+use Rattle.command_text.specs.declared.requests.Request.TheVariants as asks
+use Rattle.command_text.specs.declared.words.TheConstants.{SERVED}
+use Rattle.command_text.specs.Said.{said_in}
+use Rattle.exchange_lines.specs.LineSteps.{InputLine, input_lines}
+use Rattle.proposal_lines.specs.Laws.{IsSound}
+use Rattle.proposal_lines.specs.Promises.{TellsBy}
+use Rattle.serve_lines.specs.Laws.{ended_by_said, phased_of}
+use Rattle.serve_lines.specs.Output.{serving_line, serving_output}
+use Rattle.serve_lines.specs.ServingState.{ServingState}
+use Rattle.secured_lines.specs.Laws.{state_by_lines}
+use Rattle.secured_lines.specs.Output.{secured_line, secured_output}
+use Rattle.secured_lines.specs.SecuredState.{SecuredState, empty_secured, secured_of}
+
+-- they keep what is promised of an exchange that takes proposals
+abbrev pub TellSecured : List ℕ → List ℕ → Type 0
+TellSecured = TellsBy (λ (state : SecuredState). state.serving.proposing) secured_line empty_secured
+
+abbrev pub OutputsTellSecured : Type 0
+OutputsTellSecured = (input : List ℕ) → TellSecured input (secured_output input)
+
+-- ---- closed markets
+-- none of the lines clears, settles or opens the market
+abbrev pub AreMeanwhile : ℕ → SecuredState → List InputLine → Type 0
+AreMeanwhile market state [] = ⊤
+AreMeanwhile market state (line ∷ lines) =
+    (option_map_or (nat_eq market) (ended_by_said state.serving (said_in SERVED line.bytes)) false ≡ false)
+    × AreMeanwhile market (secured_line line.number state line.bytes).1 lines
+
+-- a closed market is still closed after them, and its live orders are what they were
+abbrev pub ClosedMarketsStandStill : Type 0
+ClosedMarketsStandStill =
+    (market : ℕ) (state : SecuredState) (lines : List InputLine) → IsSound state.serving.proposing → is_closed state.serving.closed market ≡ true
+    → AreMeanwhile market state lines → StandsStill market (phased_of state.serving) (phased_of (state_by_lines state lines).serving)
+
+-- ---- where no account is secured
+abbrev pub Secures : InputLine → Type 0
+Secures line = (account : ℕ) × (said_in SERVED line.bytes ≡ Ok (asks.Secure account))
+
+abbrev pub AsksNeed : InputLine → Type 0
+AsksNeed line = (account : ℕ) × (said_in SERVED line.bytes ≡ Ok (asks.Need account))
+
+-- the line neither secures an account nor asks what one needs
+pub record NamesNoSecured (line : InputLine) : Type 0 where
+  pub secures : Secures line → ⊥
+  pub asks : AsksNeed line → ⊥
+
+-- for an input of such lines it is written what an exchange writes that has no secured accounts
+abbrev pub WithoutSecured : Type 0
+WithoutSecured = (input : List ℕ) → All NamesNoSecured (input_lines input) → secured_output input ≡ serving_output input
+
+-- line by line: what is written is the same for each that does not ask what an account needs, and
+-- so is the exchange after each
+abbrev pub AreAlike : ServingState → SecuredState → List InputLine → Type 0
+AreAlike alone state [] = ⊤
+AreAlike alone state (line ∷ lines) =
+    let without = serving_line line.number alone line.bytes in
+    let with = secured_line line.number state line.bytes in
+    ((AsksNeed line → ⊥) → with.0 ≡ without.0) × (with.1.serving ≡ without.1) × AreAlike without.1 with.1 lines
+
+abbrev pub AnswersAreAlike : Type 0
+AnswersAreAlike = (serving : ServingState) (lines : List InputLine) → All (λ line. Secures line → ⊥) lines → AreAlike serving (secured_of serving []) lines
