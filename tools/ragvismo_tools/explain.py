@@ -169,6 +169,8 @@ LAYOUTS = {
     "positions": Layout((ACCOUNT, MARKET)),
     "close": Layout((MARKET,)),
     "reopen": Layout((MARKET,)),
+    "secure": Layout((ACCOUNT,)),
+    "need": Layout((ACCOUNT,)),
 }
 OF_RUN = (
     "open",
@@ -196,6 +198,8 @@ KNOWN = {
         "positions",
         "close",
         "reopen",
+        "secure",
+        "need",
         "propose",
     ),
 }

@@ -1,6 +1,6 @@
 use live_lines::serve;
 use port_io::{MemSink, MemSource};
-use serve_lines::ServeLines;
+use secured_lines::SecuredLines;
 use std::alloc::{AllocError, Global};
 use std::test::Fail;
 
@@ -53,7 +53,13 @@ pub(crate) fn ends_with(
     bytes.extend_from_slice(then.as_bytes())?;
     let mut source = MemSource::new(bytes, 7, Vec::new(alloc));
     let mut sink = MemSink::new(alloc, 20_000, 20_000, Vec::new(alloc))?;
-    let end = serve(alloc, ServeLines::new(alloc), true, &mut source, &mut sink);
+    let end = serve(
+        alloc,
+        SecuredLines::new(alloc),
+        true,
+        &mut source,
+        &mut sink,
+    );
     Ok(end == Ok(()) && sink.written().ends_with(replies.as_bytes()))
 }
 

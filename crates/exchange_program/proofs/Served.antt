@@ -11,7 +11,7 @@ use Rattle.journal_audit.proofs.AuditSays.{audits_say}
 use Rattle.demo_run.specs.Demo.{demo_output}
 use Rattle.exchange_lines.specs.Promises.{TellAnswers}
 use Rattle.exchange_lines.proofs.AsRun.{runs_tell_answers}
-use Rattle.serve_lines.proofs.Telling.{outputs_tell_serving}
+use Rattle.secured_lines.proofs.Telling.{outputs_tell_secured}
 use Rattle.exchange_sessions.specs.Answers.{sessions_output}
 use Rattle.exchange_sessions.proofs.TellLaws.{output_tells_once, sessions_tell_once}
 use Rattle.guarded_lines.proofs.AsRun.{guarded_tell_answers}
@@ -41,7 +41,7 @@ told_in Quotes input = quotes_tell_answers input
 told_in Guarded input = guarded_tell_answers input
 
 pub told_served : (kind : Served) (input : List ℕ) → ServedTell kind input (served_output kind input)
-told_served served.Lines input = outputs_tell_serving input
+told_served served.Lines input = outputs_tell_secured input
 told_served served.Sessions input = sessions_tell_once input
 
 -- what is written where the input is read first is told what is promised

@@ -9,8 +9,8 @@ use Rattle.exchange_sessions.specs.AllLines.{TellAllOnce, all_sessions_output}
 use Rattle.live_lines.specs.Serving.{Known}
 use Rattle.program_words.specs.declared.requests.Served.{Served}
 use Rattle.program_words.specs.declared.requests.Served.TheVariants.{Lines, Sessions}
-use Rattle.serve_lines.specs.Output.{serving_output}
-use Rattle.serve_lines.specs.Promises.{TellServing}
+use Rattle.secured_lines.specs.Output.{secured_output}
+use Rattle.secured_lines.specs.Promises.{TellSecured}
 use Rattle.exchange_program.specs.declared.status.Status.{Status}
 use Rattle.exchange_program.specs.declared.status.Status.TheVariants.{Done, ReadFault, WriteFault, TooLong, Memory}
 
@@ -34,12 +34,12 @@ skips_mark Sessions = false
 
 -- what is written for an input
 abbrev pub served_output : Served → List ℕ → List ℕ
-served_output Lines input = serving_output input
+served_output Lines input = secured_output input
 served_output Sessions input = all_sessions_output input
 
 -- what is promised of it: the lines are told their answers, and the messages each once
 abbrev pub ServedTell : Served → List ℕ → List ℕ → Type 0
-ServedTell Lines input bytes = TellServing input bytes
+ServedTell Lines input bytes = TellSecured input bytes
 ServedTell Sessions input bytes = TellAllOnce input bytes
 
 -- the output of these bytes is written, and keeps what is promised of it; or a front of it is

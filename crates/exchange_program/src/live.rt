@@ -7,7 +7,7 @@ use crate::status::Status;
 use live_lines::serve;
 use port_io::{Sink, Source, Stop};
 use program_words::Served;
-use serve_lines::ServeLines;
+use secured_lines::SecuredLines;
 use session_lines::SessionLines;
 use std::alloc::Global;
 
@@ -48,7 +48,7 @@ pub(crate) fn answer_live<S: Source, K: Sink>(
           takes = S.taken source.new;
         }) result }
 {
-    let lines = ServeLines::new(alloc);
+    let lines = SecuredLines::new(alloc);
     match served {
         Served::Lines => serve(alloc, lines, true, source, sink),
         Served::Sessions => {

@@ -16,11 +16,11 @@ use Rattle.session_lines.specs.Served.{EndsLines, reply_by}
 use Rattle.session_lines.proofs.Served.{feed_again}
 use Rattle.session_lines.proofs.SessionOutputs.{outputs_tell_once}
 use Rattle.session_lines.proofs.TellLaws.{tells_once}
-use Rattle.serve_lines.specs.Output.{serving_line, serving_output}
-use Rattle.serve_lines.specs.Promises.{TellServing}
-use Rattle.serve_lines.specs.ServingState.{empty_serving}
-use Rattle.serve_lines.proofs.Ends as serving
-use Rattle.serve_lines.proofs.Telling.{outputs_tell_serving}
+use Rattle.secured_lines.specs.Output.{secured_line, secured_output}
+use Rattle.secured_lines.specs.Promises.{TellSecured}
+use Rattle.secured_lines.specs.SecuredState.{empty_secured}
+use Rattle.secured_lines.proofs.Ends as secured
+use Rattle.secured_lines.proofs.Telling.{outputs_tell_secured}
 use Rattle.exchange_sessions.specs.AllLines.{SessionsTellOnce, all_sessions_output}
 use Rattle.exchange_sessions.specs.Answers.{answers, sessions_output}
 use Rattle.exchange_sessions.specs.Laws.{OutputTellsOnce, SessionsTold}
@@ -54,5 +54,5 @@ output_tells_once input =
 -- ---- by lines of any kind
 pub sessions_tell_once : SessionsTellOnce
 sessions_tell_once input =
-    sessions_told (reply_by serving_line empty_serving) serving_output TellServing input (all_sessions_output input)
-    (outputs_tell_once serving_line serving.ends_lines true empty_serving input) outputs_tell_serving
+    sessions_told (reply_by secured_line empty_secured) secured_output TellSecured input (all_sessions_output input)
+    (outputs_tell_once secured_line secured.ends_lines true empty_secured input) outputs_tell_secured

@@ -28,10 +28,9 @@ use Rattle.proposal_lines.specs.Proposed.{proposed_reply}
 use Rattle.proposal_lines.specs.Reads.{refused_by}
 use Rattle.proposal_lines.specs.declared.proposed.Proposed.{Proposed}
 use Rattle.proposal_lines.specs.declared.replies.ProposingReply.TheVariants.{Told}
-use Rattle.serve_lines.specs.Output.{serving_line, serving_said}
-use Rattle.serve_lines.specs.Phased.{exchange_of}
-use Rattle.serve_lines.specs.Promises.{state_by_lines}
-use Rattle.serve_lines.specs.ServingState.{ServingState, empty_serving}
+use Rattle.secured_lines.specs.Output.{secured_line, secured_said}
+use Rattle.secured_lines.specs.Laws.{state_by_lines}
+use Rattle.secured_lines.specs.SecuredState.{SecuredState, empty_secured, exchange_in}
 use Rattle.book_proposals.specs.Answers.{IsAnswerTo, IsBookOf, IsProposed, proposing_text, submission_for}
 use Rattle.book_proposals.specs.Laws.{IsReadAs}
 use Rattle.book_proposals.proofs.FoundBooks.{reads as book_reads}
@@ -41,37 +40,37 @@ use Rattle.reply_ranges.specs.Books.{BooksAreProposedFor, BooksAreTold, IsReadAs
 use Rattle.reply_ranges.proofs.InputLines.{AreCounted, inputs_counted}
 use Rattle.reply_ranges.proofs.ReadAsWritten.{book_is_whole, proposing_is_whole}
 use Rattle.reply_ranges.proofs.ServedLines.{empty_stands, still}
-use Rattle.reply_ranges.proofs.ServingLines.{StandsServing, serving_answers}
+use Rattle.reply_ranges.proofs.SecuredServed.{StandsSecured, secured_answers}
 use Rattle.reply_ranges.proofs.States.{batch_is_within, live_ranged}
 
 -- ---- before a line of an input
-reached : (low : ℕ) (state : ServingState) (before later : List InputLine) (line : InputLine) → StandsServing (low + 1) state → AreCounted low (before ++ line ∷ later)
-    → StandsServing line.number (state_by_lines state before) × (line.number ≤ MAX_LINES)
-reached low state [] later line stands counted = let above = counted.0 in (still (low + 1) line.number state.proposing (omega (arith, above)) stands, counted.1)
+reached : (low : ℕ) (state : SecuredState) (before later : List InputLine) (line : InputLine) → StandsSecured (low + 1) state → AreCounted low (before ++ line ∷ later)
+    → StandsSecured line.number (state_by_lines state before) × (line.number ≤ MAX_LINES)
+reached low state [] later line stands counted = let above = counted.0 in (still (low + 1) line.number state.serving.proposing (omega (arith, above)) stands, counted.1)
 reached low state (first ∷ before) later line stands counted =
     let above = counted.0 in
-    let here = still (low + 1) first.number state.proposing (omega (arith, above)) stands in
-    reached first.number (serving_line first.number state first.bytes).1 before later line (serving_answers first.number state counted.1 here first.bytes).1 counted.2
+    let here = still (low + 1) first.number state.serving.proposing (omega (arith, above)) stands in
+    reached first.number (secured_line first.number state first.bytes).1 before later line (secured_answers first.number state counted.1 here first.bytes).1 counted.2
 
 -- ---- what is told
-module _ (number : ℕ) (state : ServingState) (few : number ≤ MAX_LINES) (stands : StandsServing number state) (market : ℕ) (tells : TellsLive state market) where
+module _ (number : ℕ) (state : SecuredState) (few : number ≤ MAX_LINES) (stands : StandsSecured number state) (market : ℕ) (tells : TellsLive state market) where
   abbrev live : Batch
-  live = batch_in (exchange_of state) market
+  live = batch_in (exchange_in state) market
 
   as_book : IsMarket market → IsReadAsBook (proposal_line number (told.Book market live)) market live
   as_book listed =
-      let batch = live_ranged stands.lines (exchange_of state) stands.exchange.running stands.exchange.ranged market tells in
+      let batch = live_ranged stands.lines (exchange_in state) stands.exchange.running stands.exchange.ranged market tells in
       let reply = told.Book market live in
       let some = stands.counted in
-      let within : IsProposalLineWithin number reply = ((omega (arith, some), few), (listed, batch_is_within (exchange_of state).book.accepted live batch, batch.within.ids_rise)) in (
+      let within : IsProposalLineWithin number reply = ((omega (arith, some), few), (listed, batch_is_within (exchange_in state).book.accepted live batch, batch.within.ids_rise)) in (
         list_any_none (λ b. b == 10) (proposal_line number reply) (piece_has_no_feed 6 (proposal_piece number reply) (reply_written number reply within)),
         book_is_whole number market live,
         record { number = number; told = (within, refl); within = batch.within },
       )
 
-  tells_book : (line : List ℕ) → said_in SERVED line ≡ Ok (asks.Book market) → (serving_line number state line).0 ≡ proposal_line number (told.Book market live) ++ 10 ∷ []
+  tells_book : (line : List ℕ) → said_in SERVED line ≡ Ok (asks.Book market) → (secured_line number state line).0 ≡ proposal_line number (told.Book market live) ++ 10 ∷ []
   tells_book line is =
-      ap (λ said. (serving_said number state line said).0) is
+      ap (λ said. (secured_said number state line said).0) is
       ∙ ap (λ first. proposing_reply_line number (option_map_or refused_by first (Told (told.Book market live))) ++ 10 ∷ []) tells
 
 listed_in : (line : List ℕ) (market : ℕ) → said_in SERVED line ≡ Ok (asks.Book market) → IsMarket market
@@ -79,9 +78,9 @@ listed_in line market is = subst (λ said. IfOk said RequestIsWithin) is (said_i
 
 pub books_are_told : BooksAreTold
 books_are_told input before later line market within is asks tells =
-    let state = state_by_lines empty_serving before in
-    let now = reached 0 empty_serving before later line empty_stands (subst (AreCounted 0) is (inputs_counted input within)) in (
-      proposal_line line.number (told.Book market (batch_in (exchange_of state) market)),
+    let state = state_by_lines empty_secured before in
+    let now = reached 0 empty_secured before later line empty_stands (subst (AreCounted 0) is (inputs_counted input within)) in (
+      proposal_line line.number (told.Book market (batch_in (exchange_in state) market)),
       tells_book line.number state now.1 now.0 market tells line.bytes asks,
       as_book line.number state now.1 now.0 market tells (listed_in line.bytes market asks),
     )
@@ -103,18 +102,18 @@ is_proposed line text market batch book (inr none) = absurd (none.0 market batch
 taken : (line : List ℕ) (market : ℕ) (batch : Batch) (proposal : Proposal) → IsReadAs line market (submission_for batch proposal) → IsJudgedBound batch proposal
     → IsTakenFor market batch line
 taken line market batch proposal is judged number state tells same = (
-  (proposed_reply state.proposing (Ok proposed)).0,
-  ap (λ said. (serving_said number state line said).0) is.1 ∙ ap (λ said. proposing_reply_line number (proposed_reply state.proposing said).0 ++ 10 ∷ []) is.2,
+  (proposed_reply state.serving.proposing (Ok proposed)).0,
+  ap (λ said. (secured_said number state line said).0) is.1 ∙ ap (λ said. proposing_reply_line number (proposed_reply state.serving.proposing said).0 ++ 10 ∷ []) is.2,
   not_refused,
 )
   where
     proposed : Proposed
     proposed = record { market = market; submission = submission_for batch proposal }
 
-    not_refused : ¬ (IsRefused (proposed_reply state.proposing (Ok proposed)).0)
+    not_refused : ¬ (IsRefused (proposed_reply state.serving.proposing (Ok proposed)).0)
     not_refused =
-        subst (λ b. IsJudgedBound b proposal → ¬ (IsRefused (proposed_reply state.proposing (Ok (record { market = market; submission = submission_for b proposal }))).0)) same
-        (proposals_are_taken state.proposing market proposal tells) judged
+        subst (λ b. IsJudgedBound b proposal → ¬ (IsRefused (proposed_reply state.serving.proposing (Ok (record { market = market; submission = submission_for b proposal }))).0)) same
+        (proposals_are_taken state.serving.proposing market proposal tells) judged
 
 pub books_are_proposed_for : BooksAreProposedFor
 books_are_proposed_for line text market batch book answer =

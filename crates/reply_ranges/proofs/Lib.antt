@@ -20,6 +20,7 @@ pub mod Kept
 pub mod Proposals
 pub mod ServedLines
 pub mod ServingLines
+pub mod SecuredServed
 pub mod Messages
 pub mod Audited
 pub mod InputLines

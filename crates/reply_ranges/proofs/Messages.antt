@@ -36,10 +36,10 @@ use Rattle.journal_audit.specs.GateLines.{IsExpected, IsGateWithin, IsSessionNum
 use Rattle.journal_audit.specs.Laws.{IsServedLineOf, OfGate, OfServe, ServedReply}
 use Rattle.journal_audit.proofs.GateTaken.{gate_written}
 use Rattle.reply_print.specs.Within.{IsLine}
-use Rattle.serve_lines.specs.Output.{serving_line}
-use Rattle.serve_lines.specs.ServingState.{ServingState, empty_serving}
+use Rattle.secured_lines.specs.Output.{secured_line}
+use Rattle.secured_lines.specs.SecuredState.{SecuredState, empty_secured}
 use Rattle.reply_ranges.proofs.ServedLines.{empty_stands}
-use Rattle.reply_ranges.proofs.ServingLines.{StandsServing, serving_answers}
+use Rattle.reply_ranges.proofs.SecuredServed.{StandsSecured, secured_answers}
 use Rattle.reply_ranges.proofs.Reports.{HasNoFeed}
 use Rattle.reply_ranges.proofs.Runs.{IsAnswered}
 use Rattle.reply_ranges.proofs.Texts.{both_have_none, plain_has_none, with_byte}
@@ -143,16 +143,16 @@ accepted_has_none session number reply one =
     (both_have_none (decimal session) (codes "}") (number_has_none session) (tested_has_none (codes "}") refl))))
 
 -- ---- before the line of a number
-pub record StandsBefore (number : ℕ) (state : SessionsState ServingState) : Type 0 where
+pub record StandsBefore (number : ℕ) (state : SessionsState SecuredState) : Type 0 where
   served : state.0.served < number
-  stands : StandsServing (state.0.served + 1) state.1
+  stands : StandsSecured (state.0.served + 1) state.1
   kept : (session : ℕ) → IfSome (kept_of state.0.sessions session) IsKeptServed
 
-pub nothing_before : StandsBefore 1 (new_sessions empty_serving)
+pub nothing_before : StandsBefore 1 (new_sessions empty_secured)
 nothing_before = record { served = omega arith; stands = empty_stands; kept = λ session. tt }
 
 -- behind an empty line
-pub passes : (number : ℕ) (state : SessionsState ServingState) → StandsBefore number state → StandsBefore (number + 1) state
+pub passes : (number : ℕ) (state : SessionsState SecuredState) → StandsBefore number state → StandsBefore (number + 1) state
 passes number state h = let lt = h.served in record { served = omega (arith, lt); stands = h.stands; kept = h.kept }
 
 -- what is kept of a session after one more message
@@ -170,8 +170,8 @@ without_it : (text : List ℕ) → without_feed (text ++ 10 ∷ []) ≡ text
 without_it text = take_at text (10 ∷ []) (length (text ++ 10 ∷ []) - 1) (omega (arith, length-append text (10 ∷ [])))
 
 -- ---- what is written for a line
-module _ (number : ℕ) (state : SessionsState ServingState) (few : number ≤ MAX_LINES) (before : StandsBefore number state) where
-  abbrev IsTold : List ℕ × SessionsState ServingState → Type 0
+module _ (number : ℕ) (state : SessionsState SecuredState) (few : number ≤ MAX_LINES) (before : StandsBefore number state) where
+  abbrev IsTold : List ℕ × SessionsState SecuredState → Type 0
   IsTold = IsAnswered (StandsBefore (number + 1))
 
   is_line : IsLine number
@@ -189,7 +189,7 @@ module _ (number : ℕ) (state : SessionsState ServingState) (few : number ≤ M
   }
 
   reply_told : (message : Message) → IsMessage message → (reply : List ℕ) (own : ServedReply) → IsServedLineOf reply own → HasNoFeed reply
-      → (next : SessionsState ServingState) → StandsBefore (number + 1) next → IsTold (accepted_text message.session message.number reply, next)
+      → (next : SessionsState SecuredState) → StandsBefore (number + 1) next → IsTold (accepted_text message.session message.number reply, next)
   reply_told message is reply own served one next stands = record {
     text = accepted_line message.number message.session reply;
     is = accepted_is message.session message.number reply;
@@ -203,18 +203,18 @@ module _ (number : ℕ) (state : SessionsState ServingState) (few : number ≤ M
     stands = stands;
   }
 
-  abbrev told_as : Message → Answer → List ℕ × SessionsState ServingState
+  abbrev told_as : Message → Answer → List ℕ × SessionsState SecuredState
   told_as message answer =
-      let next = after_as (any_session serving_line) answer state message in (answer_text number message answer (kept_reply next.0 message.session), next)
+      let next = after_as (any_session secured_line) answer state message in (answer_text number message answer (kept_reply next.0 message.session), next)
 
   -- a message that is accepted
   first_told : (message : Message) → IsMessage message → IsTold (told_as message First)
   first_told message is =
       let lt = before.served in
       let n = state.0.served + 1 in
-      let answer = serving_answers n state.1 (omega (arith, lt, few)) before.stands message.body in
+      let answer = secured_answers n state.1 (omega (arith, lt, few)) before.stands message.body in
       let own = answer.0 in
-      let now = serving_line n state.1 message.body in
+      let now = secured_line n state.1 message.body in
       let reply = without_feed now.0 in
       let same : reply ≡ own.text = ap without_feed own.is ∙ without_it own.text in
       let new : LastAccepted = accepted_as message reply in
@@ -224,7 +224,7 @@ module _ (number : ℕ) (state : SessionsState ServingState) (few : number ≤ M
         served = subst (λ t. IsServedLineOf t own.reply) (sym same) own.served;
         one = subst HasNoFeed (sym same) own.one;
       } in
-      let next = after_answered (any_session serving_line) state message in
+      let next = after_answered (any_session secured_line) state message in
       let stands : StandsBefore (number + 1) next = record { served = omega (arith, lt); stands = answer.1; kept = kept_after state.0.sessions message.session new before.kept kept } in
       subst (λ r. IsTold (accepted_text message.session message.number r, next)) (sym (ap reply_of (kept_itself state.0.sessions message.session new)))
       (reply_told message is reply own.reply kept.served kept.one next stands)
@@ -246,10 +246,10 @@ module _ (number : ℕ) (state : SessionsState ServingState) (few : number ≤ M
       gate_told (gate.Expecting message.session expected why.Changed) (is.0, expects) _ (expecting_is number message.session expected why.Changed)
   answer_told message is Sessions e expects = gate_told (gate.Sessions message.session) is.0 _ (sessions_is number message.session)
 
-  said_told : (said : Option Message) → IfSome said IsMessage → IsTold (said_step (any_session serving_line) number state said)
+  said_told : (said : Option Message) → IfSome said IsMessage → IsTold (said_step (any_session secured_line) number state said)
   said_told None is = gate_told gate.Malformed tt _ (malformed_is number)
   said_told (Some message) is =
       answer_told message is (answer_to state.0 message) refl (answer_expected (kept_of state.0.sessions message.session) state.0.sessions message (before.kept message.session))
 
-  pub answers_messages : (line : List ℕ) → IsTold (session_step (any_session serving_line) number state line)
+  pub answers_messages : (line : List ℕ) → IsTold (session_step (any_session secured_line) number state line)
   answers_messages line = said_told (message_in line) (message_within line)

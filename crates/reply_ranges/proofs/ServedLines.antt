@@ -85,7 +85,7 @@ module _ (lines : ℕ) (state : ProposingState) (line : InputLine) (sound : IsSo
   abbrev exchange : ExchangeState
   exchange = state.exchange
 
-  run_stands : IsStanding (lines + 1) (reply_to exchange (body_of_line line.bytes)).1
+  pub run_stands : IsStanding (lines + 1) (reply_to exchange (body_of_line line.bytes)).1
   run_stands =
       let said = body_of_line line.bytes in
       let within = lines_are_within line.bytes in

@@ -1,5 +1,5 @@
 -- Each line of `serve` is sound, and what is left stands before the next one.
-use Rattle.std.proofs.Common.{◌≡◌, ℕ, ◌+◌, ◌≤◌, List, [], ◌∷◌, ◌++◌, Bool, true, false, not, length, if◌then◌else◌, Option, Some, None, Result, Ok, Err, inl, refl, subst, arith}
+use Rattle.std.proofs.Common.{◌≡◌, ℕ, ◌+◌, ◌≤◌, List, [], ◌∷◌, ◌++◌, Bool, true, false, not, length, if◌then◌else◌, Option, Some, None, Result, Ok, Err, refl, subst, arith}
 use Rattle.std.specs.Prelude.{IfOk}
 use Rattle.std.specs.Option.{option_map_or}
 use Rattle.command_text.specs.declared.asked.Fault.{Fault}
@@ -20,7 +20,6 @@ use Rattle.order_book.specs.Refusals.{is_market, is_settled}
 use Rattle.order_book.proofs.BookKept.{market_kept}
 use Rattle.reply_print.specs.Within.{IsLine}
 use Rattle.proposal_text.specs.declared.replies.ProposalReply.TheVariants as told
-use Rattle.journal_audit.specs.Laws.{OfServe}
 use Rattle.auction_phases.specs.Phases.{bars, ended_in, is_closed}
 use Rattle.auction_phases.specs.declared.refusal.PhaseRefusal.{PhaseRefusal}
 use Rattle.auction_phases.specs.declared.refusal.PhaseRefusal.TheVariants.{Exchange, Closed, Open}
@@ -31,17 +30,12 @@ use Rattle.serve_lines.specs.Output.{handed_on, serving_line, serving_said, writ
 use Rattle.serve_lines.specs.Phased.{close_reply, closed_effect, exchange_of, refused_by, reopen_reply, reopened_effect, with_phases}
 use Rattle.serve_lines.specs.ServingState.{ServingState}
 use Rattle.reply_ranges.proofs.Others.{refusal_served}
-use Rattle.reply_ranges.proofs.Runs.{IsAnswered}
 use Rattle.reply_ranges.proofs.ServedLines.{Stands, answers, passes}
 use Rattle.reply_ranges.proofs.Texts.{IsServedText, proposal_text}
 
 -- before the line of a number
 abbrev pub StandsServing : ℕ → ServingState → Type 0
 StandsServing number state = Stands number state.proposing
-
--- behind an empty line
-pub passes_serving : (number : ℕ) (state : ServingState) → StandsServing number state → StandsServing (number + 1) state
-passes_serving number state = passes number state.proposing
 
 -- ---- what is written for a line
 module _ (number : ℕ) (state : ServingState) (few : number ≤ MAX_LINES) (stands : StandsServing number state) where
@@ -131,14 +125,3 @@ module _ (number : ℕ) (state : ServingState) (few : number ≤ MAX_LINES) (sta
 
     pub serving_answers : IsServedText (serving_line number state line).0 × StandsServing (number + 1) (serving_line number state line).1
     serving_answers = said_serving (said_in SERVED line) refl (said_is_within SERVED line)
-
-    -- as one of many
-    pub line_answers : IsAnswered (StandsServing (number + 1)) (serving_line number state line)
-    line_answers =
-        let own = serving_answers.0 in
-        record {
-          text = own.text;
-          is = own.is;
-          accepted = record { sound = record { reply = OfServe own.reply; is_line = inl own.served }; one = own.one };
-          stands = serving_answers.1;
-        }

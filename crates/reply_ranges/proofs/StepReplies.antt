@@ -59,7 +59,7 @@ record IsPaidFrom (paid : PaidOut) : Type 0 where
 
 module _ (lines : ℕ) (few : lines + 1 ≤ MAX_LINES) (state : ExchangeState) (running : IsRunning state) (ranged : IsRanged lines state) where
   -- balances after one line more
-  balance_ranged : (next : ExchangeState) (account : ℕ) → next.book ≡ state.book → IsRanged (lines + 1) next → reply.IsSmall (balance_of account next.entries)
+  pub balance_ranged : (next : ExchangeState) (account : ℕ) → next.book ≡ state.book → IsRanged (lines + 1) next → reply.IsSmall (balance_of account next.entries)
   balance_ranged next account same after =
       let most = running.kept.orders.book.finished in
       balance_small account next.entries after.bounded (omega (arith, after.few, few, most, ap (λ (b : _). b.finished) same))

@@ -4,7 +4,7 @@ use Rattle.journal_check.specs.declared.reports.Report.{Report}
 use Rattle.journal_check.specs.declared.reports.Report.TheVariants.{Sound, Faulty}
 use Rattle.journal_audit.specs.Findings.{audit_of}
 use Rattle.live_lines.specs.Serving.{IsInputWithin}
-use Rattle.serve_lines.specs.Output.{serving_output}
+use Rattle.secured_lines.specs.Output.{secured_output}
 use Rattle.exchange_sessions.specs.AllLines.{all_sessions_output}
 
 -- the verdict is yes
@@ -15,7 +15,7 @@ NamesNoLine (Faulty line reason) = ⊥
 -- the report on what is written for an input whose lines are within the limits, as those of a run
 -- that finished are, names no line
 abbrev pub ServedLinesAreAccepted : Type 0
-ServedLinesAreAccepted = (input : List ℕ) → IsInputWithin true input → NamesNoLine (audit_of (serving_output input))
+ServedLinesAreAccepted = (input : List ℕ) → IsInputWithin true input → NamesNoLine (audit_of (secured_output input))
 
 -- nor does the report on what is written for messages
 abbrev pub ServedMessagesAreAccepted : Type 0

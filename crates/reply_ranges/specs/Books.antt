@@ -14,16 +14,15 @@ use Rattle.proposal_lines.specs.Laws.{IsRefused}
 use Rattle.proposal_lines.specs.Output.{proposing_reply_line}
 use Rattle.proposal_lines.specs.Reads.{book_refusals}
 use Rattle.proposal_lines.specs.declared.replies.ProposingReply.{ProposingReply}
-use Rattle.serve_lines.specs.Output.{serving_line}
-use Rattle.serve_lines.specs.Phased.{exchange_of}
-use Rattle.serve_lines.specs.Promises.{state_by_lines}
-use Rattle.serve_lines.specs.ServingState.{ServingState, empty_serving}
+use Rattle.secured_lines.specs.Output.{secured_line}
+use Rattle.secured_lines.specs.Laws.{state_by_lines}
+use Rattle.secured_lines.specs.SecuredState.{SecuredState, empty_secured, exchange_in}
 use Rattle.book_proposals.specs.Answers.{IsAnswerTo, IsBookOf}
 use Rattle.book_proposals.specs.Laws.{IsShortLine}
 
 -- nothing refuses that the live orders of the market are told: it is there, and not settled
-abbrev pub TellsLive : ServingState → ℕ → Type 0
-TellsLive state market = first_of (book_refusals (exchange_of state) market) ≡ None
+abbrev pub TellsLive : SecuredState → ℕ → Type 0
+TellsLive state market = first_of (book_refusals (exchange_in state) market) ≡ None
 
 -- nothing of the line is passed over where it is read: neither a mark at its start nor a carriage
 -- return at its end
@@ -41,16 +40,16 @@ abbrev pub BooksAreTold : Type 0
 BooksAreTold =
     (input : List ℕ) (before later : List InputLine) (line : InputLine) (market : ℕ) → IsInputWithin true input
     → input_lines input ≡ before ++ line ∷ later → said_in SERVED line.bytes ≡ Ok (Book market)
-    → (let state = state_by_lines empty_serving before in
+    → (let state = state_by_lines empty_secured before in
     TellsLive state market
-    → (told : List ℕ) × ((serving_line line.number state line.bytes).0 ≡ told ++ 10 ∷ []) × IsReadAsBook told market (batch_in (exchange_of state) market))
+    → (told : List ℕ) × ((secured_line line.number state line.bytes).0 ≡ told ++ 10 ∷ []) × IsReadAsBook told market (batch_in (exchange_in state) market))
 
 -- wherever just these are the live orders of the market, and are told, the line is answered by no
 -- refusal: what it proposes is taken
 abbrev pub IsTakenFor : ℕ → Batch → List ℕ → Type 0
 IsTakenFor market batch line =
-    (number : ℕ) (state : ServingState) → TellsLive state market → batch_in (exchange_of state) market ≡ batch
-    → (reply : ProposingReply) × ((serving_line number state line).0 ≡ proposing_reply_line number reply ++ 10 ∷ []) × ¬ (IsRefused reply)
+    (number : ℕ) (state : SecuredState) → TellsLive state market → batch_in (exchange_in state) market ≡ batch
+    → (reply : ProposingReply) × ((secured_line number state line).0 ≡ proposing_reply_line number reply ++ 10 ∷ []) × ¬ (IsRefused reply)
 
 -- what is written for a book is one such line, as short as an exchange takes it
 abbrev pub BooksAreProposedFor : Type 0

@@ -1,5 +1,5 @@
 pub mod Ends
-mod LineKinds
+pub mod LineKinds
 pub mod Moves
 mod OneUnderlying
 mod Prices

@@ -36,7 +36,7 @@ use Rattle.proposal_lines.specs.declared.proposed.Proposed.{Proposed}
 use Rattle.proposal_lines.specs.declared.replies.ProposingReply.TheVariants.{Told}
 use Rattle.proposal_lines.proofs.AsRun.{said_beside}
 use Rattle.proposal_lines.proofs.Clearing.{better_is}
-use Rattle.secured_accounts.specs.Laws.{Asked, Charged, Event, Guarded, MayCome, Securing, after_event, guarded}
+use Rattle.secured_accounts.specs.Laws.{Asked, Charged, Event, MayCome, Securing, after_event, guarded}
 use Rattle.secured_accounts.specs.Secured.{uncovered}
 use Rattle.serve_lines.specs.Output.{handed_on as serving_handed_on, serving_line, serving_said, written_reply as serving_reply}
 use Rattle.serve_lines.specs.Phased.{closed_effect, exchange_of, refused_by, reopened_effect, with_phases}

@@ -7,8 +7,6 @@ use Rattle.account_need.specs.Account.{Need}
 use Rattle.command_text.specs.declared.command.Command.{Command}
 use Rattle.command_text.specs.declared.command.Command.TheVariants.{Open, Deposit, Withdraw, Market, Trade, Bundle, Cancel, Clear, Settle, Balance}
 use Rattle.command_text.specs.declared.requests.Request.TheVariants as asks
-use Rattle.command_text.specs.declared.words.TheConstants.{SERVED}
-use Rattle.command_text.specs.Said.{said_in}
 use Rattle.exchange_core.specs.declared.refusal.Refusal.{Refusal}
 use Rattle.exchange_core.specs.ExchangeState.{ExchangeState}
 use Rattle.exchange_core.specs.Refusals.{refusal_of}
@@ -56,7 +54,7 @@ module _ (market : ℕ) where
       by false = refl
   one_more new one (m ∷ markets) is =
       (elim (nat_eq market m.0) as (λ b. on_of (option_map (λ (m : MarketState). m.underlyings) (cond b (Some m.1) (lookup (nat_eq market) markets))) ≡ 1
-          → on_of (option_map (λ (m : MarketState). m.underlyings) (cond b (Some m.1) (lookup (nat_eq market) (markets ++ new ∷ [])))) ≡ 1) [
+      → on_of (option_map (λ (m : MarketState). m.underlyings) (cond b (Some m.1) (lookup (nat_eq market) (markets ++ new ∷ [])))) ≡ 1) [
         | true ↦ λ h. h
         | false ↦ λ h. one_more new one markets h
       ]) is

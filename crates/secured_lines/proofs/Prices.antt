@@ -6,7 +6,7 @@ use Rattle.command_text.specs.declared.asked.Asked.{Asked}
 use Rattle.command_text.specs.declared.asked.Fault.{Fault}
 use Rattle.command_text.specs.declared.asked.Fault.TheVariants.{Syntax}
 use Rattle.command_text.specs.declared.command.Command.{Command}
-use Rattle.command_text.specs.declared.command.Command.TheVariants.{Bundle, Settle}
+use Rattle.command_text.specs.declared.command.Command.TheVariants.{Settle}
 use Rattle.command_text.specs.declared.numbers.NumberRead.{NumberRead}
 use Rattle.command_text.specs.declared.numbers.NumberRead.TheVariants.{NotNumber, Outside, Value}
 use Rattle.command_text.specs.declared.ranges.TheConstants.{MARKET}
@@ -21,7 +21,7 @@ use Rattle.command_text.specs.Fields.{fields_of_line}
 use Rattle.command_text.specs.Numbers.{number_in}
 use Rattle.command_text.specs.Requests.{as_price, as_quote, propose_request, proposed_for}
 use Rattle.command_text.specs.Said.{as_command, proposed_in, said_by, said_by_fields, said_in, said_of}
-use Rattle.command_text.specs.Trades.{kind_in, prices_in, settle_command, trade_command, unless, with_some}
+use Rattle.command_text.specs.Trades.{kind_in, prices_in, settle_command, trade_command, unless}
 use Rattle.command_text.specs.Words.{word_among}
 use Rattle.command_text.proofs.Bounds.{either, ok_some, ok_unless}
 use Rattle.form.specs.declared.orders.Side.{Side}

@@ -5,7 +5,6 @@ use Rattle.command_text.specs.declared.asked.Fault.{Fault}
 use Rattle.command_text.specs.declared.requests.Request.{Request}
 use Rattle.command_text.specs.declared.words.TheConstants.{SERVED}
 use Rattle.command_text.specs.Said.{said_in}
-use Rattle.exchange_lines.specs.LineSteps.{InputLine}
 use Rattle.lists.specs.Refusals.{first_of}
 use Rattle.secured_accounts.specs.Refusals.{secure_refusals}
 use Rattle.secured_accounts.specs.Secured.{is_secured, with_secured}

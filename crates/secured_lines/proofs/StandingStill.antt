@@ -16,7 +16,7 @@ use Rattle.exchange_lines.specs.LineSteps.{InputLine}
 use Rattle.order_book.specs.Book.{live_of}
 use Rattle.proposal_lines.specs.Laws.{IsSound}
 use Rattle.serve_lines.specs.Laws.{ended_by_said, phased_of}
-use Rattle.serve_lines.specs.Output.{serving_line, serving_said}
+use Rattle.serve_lines.specs.Output.{serving_said}
 use Rattle.serve_lines.proofs.StandingStill as serving
 use Rattle.secured_lines.specs.Output.{handed_on, secured_line, secured_said, withdrawn}
 use Rattle.secured_lines.specs.Promises.{ClosedMarketsStandStill}

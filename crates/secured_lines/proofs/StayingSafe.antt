@@ -1,13 +1,12 @@
 -- Secured accounts stay secured, and their balances at or above their true needs.
-use Rattle.std.proofs.Common.{◌≡◌, ℕ, Bool, true, List, [], ◌∷◌, ◌++◌, Option, Some, None, Result, Ok, Err, inl, inr, ⊎_elim, if◌then◌else◌, refl, sym, ap, ◌∙◌, subst}
-use Rattle.std.specs.Option.{option_map_or}
+use Rattle.std.proofs.Common.{◌≡◌, [], ◌∷◌, ⊎_elim, sym, subst}
 use Rattle.account_need.specs.Account.{portfolios}
 use Rattle.account_need.proofs.Secured.{secured_can_pay as balance_can_pay}
 use Rattle.cash_ledger.specs.Entries.{balance_of}
 use Rattle.exchange_lines.specs.LineSteps.{InputLine}
 use Rattle.proposal_lines.specs.Laws.{IsSound}
 use Rattle.secured_accounts.specs.Laws.{AreSafe, Covered, Guarded}
-use Rattle.secured_accounts.specs.Secured.{account_of, is_secured}
+use Rattle.secured_accounts.specs.Secured.{account_of}
 use Rattle.secured_accounts.proofs.StayingSafe.{secured_stay_safe as events_stay_safe}
 use Rattle.secured_lines.specs.Laws.{SecuredCanPay, SecuredStaySafe, TradersCanPay, guarded_in, state_by_lines}
 use Rattle.secured_lines.specs.Output.{secured_line}

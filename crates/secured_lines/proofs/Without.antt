@@ -3,7 +3,6 @@
 use Rattle.std.proofs.Common.{◌≡◌, ℕ, List, [], ◌∷◌, ◌++◌, Bool, true, false, All, map, Option, None, Some, Result, Ok, if◌then◌else◌, refl, sym, ap, ◌∙◌, subst}
 use Rattle.std.specs.Option.{option_map_or}
 use Rattle.std.proofs.lemmas.List.Elements.{All-head, All-tail}
-use Rattle.account_need.specs.Account.{Need}
 use Rattle.auction_phases.specs.Phases.{bars}
 use Rattle.command_text.specs.declared.asked.Fault.{Fault}
 use Rattle.command_text.specs.declared.command.Command.{Command}
@@ -18,7 +17,7 @@ use Rattle.live_lines.specs.Output.{places_output}
 use Rattle.secured_accounts.specs.Secured.{risked_by, uncovered, uncovered_by}
 use Rattle.serve_lines.specs.Output.{serving_line, serving_said}
 use Rattle.serve_lines.specs.ServingState.{ServingState, empty_serving}
-use Rattle.secured_lines.specs.Output.{handed_on, kept_from, secured_line, secured_said}
+use Rattle.secured_lines.specs.Output.{kept_from, secured_line, secured_said}
 use Rattle.secured_lines.specs.Promises.{AnswersAreAlike, AreAlike, AsksNeed, NamesNoSecured, Secures, WithoutSecured}
 use Rattle.secured_lines.specs.SecuredState.{SecuredState, exchange_in, secured_of}
 use Rattle.secured_lines.proofs.LineKinds.{by_answer, by_kind}

@@ -1,5 +1,5 @@
 -- What is promised of the bytes that are written where accounts may be secured.
-use Rattle.std.specs.Prelude.{ℕ, ◌≡◌, ⊤, true, false, List, [], ◌∷◌, nat_eq, Result, Ok}
+use Rattle.std.specs.Prelude.{ℕ, ◌≡◌, ⊤, true, false, List, [], ◌∷◌, nat_eq, Ok}
 use Rattle.std.specs.List.{All}
 use Rattle.std.specs.Option.{option_map_or}
 use Rattle.auction_phases.specs.Laws.{StandsStill}

@@ -1,5 +1,5 @@
 // An exchange that answers all lines of `serve`, over accounts that may be secured.
-ghost use Rattle.std.specs.Prelude.{◌≡◌, IfOk, fst};
+ghost use Rattle.std.specs.Prelude.{◌≡◌, IfOk};
 ghost use Rattle.command_text.specs.Within.{IsAccount, IsInside, IsWithin, RequestIsWithin};
 ghost use Rattle.live_lines.specs.Answering.{by_step};
 ghost use Rattle.secured_lines.specs.Output.{command_line, kept_from, let_through, need_reply, secure_reply, secured_line, secured_said, written_reply};
@@ -68,12 +68,7 @@ impl SecuredLines {
     }
 
     // The answer to a line that asks what an account needs.
-    fn answer_need(
-        &self,
-        alloc: Global,
-        number: u32,
-        account: u32,
-    ) -> Result<Vec<u8>, AllocError>
+    fn answer_need(&self, alloc: Global, number: u32, account: u32) -> Result<Vec<u8>, AllocError>
         ensures { IfOk result (λ text. (text.items, self.now)
             ≡ written_reply number (need_reply self.now account, self.now)) }
     {

@@ -158,7 +158,8 @@ impl ServeLines {
         ensures { IfOk result (λ text.
             (text.items, self.new) ≡ withdrawal_line number self.old account amount) }
     {
-        self.proposals.answer_withdrawal(alloc, number, account, amount)
+        self.proposals
+            .answer_withdrawal(alloc, number, account, amount)
     }
 
     /// The answer to a line of these bytes that says this. The only error is want of memory.
