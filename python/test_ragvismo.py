@@ -296,6 +296,19 @@ class Clearing(unittest.TestCase):
             self.assertEqual((caught.exception.number, caught.exception.reason), (24, "Open"))
             exchange.cancel(account=2, order=3)
 
+    def test_a_secured_account_of_a_live_exchange(self) -> None:
+        with Exchange() as exchange:
+            exchange.open(account=2)
+            exchange.deposit(account=2, amount=4)
+            exchange.market(market=1)
+            self.assertEqual(exchange.secure(account=2), 0)
+            with self.assertRaises(ragvismo.Refused) as caught:
+                exchange.sell(account=2, market=1, option=put(10), price=7)
+            self.assertEqual((caught.exception.number, caught.exception.reason), (14, "Margin"))
+            exchange.deposit(account=2, amount=1)
+            exchange.sell(account=2, market=1, option=put(10), price=7)
+            self.assertEqual(exchange.need(account=2), (5, 5, True))
+
     def test_solvers_where_the_run_gives_up(self) -> None:
         """Each solver's fills hold for audit, and none is above another's bound."""
         draw = random.Random(5)

@@ -12,6 +12,7 @@ from ragvismo.exchange import (
     Book,
     Exchange,
     Margin,
+    Need,
     Payout,
     Position,
     Price,
@@ -60,7 +61,8 @@ from ragvismo.version import __version__
 
 __all__ = ["__version__", "solvers"]
 __all__ += ["Certificate", "Cleared", "State", "clear", "clear_many", "commands_of"]
-__all__ += ["Balance", "Book", "Exchange", "Margin", "Payout", "Position", "Price", "Proposed"]
+__all__ += ["Balance", "Book", "Exchange", "Margin", "Need", "Payout", "Position"]
+__all__ += ["Price", "Proposed"]
 __all__ += ["BadChain", "BadFrame", "BadJournal", "CheckFailed", "Ended", "NoCover", "NoMeasure"]
 __all__ += ["NoProgram", "RagvismoError", "Refused", "Settled", "TimedOut", "Unproved"]
 __all__ += ["Chain", "Distribution", "JournalFrames", "PriceBounds", "Proposal", "import_chain"]

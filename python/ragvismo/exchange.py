@@ -94,6 +94,15 @@ class Book:
         return Batch(self.orders)
 
 
+class Need(NamedTuple):
+    """What an account has and needs, in ticks: a word stands where no amount is enough or none was
+    found."""
+
+    balance: int
+    need: int | str
+    secured: bool
+
+
 class Proposed(NamedTuple):
     """A proposal that holds: its surplus and bound, and the greatest surplus and the least bound
     that are kept for these orders after it, in ticks."""
@@ -273,6 +282,18 @@ class Exchange:
     def reopen_market(self, *, market: int) -> None:
         """Opens a closed market again."""
         self.ask(_line("reopen", market))
+
+    def secure(self, *, account: int) -> int:
+        """Secures an account, for good: no line is accepted from then on that could leave its
+        balance below 0. What it needs, in ticks."""
+        return int(self.ask(_line("secure", account))["need"])
+
+    def need(self, *, account: int) -> Need:
+        """What an account needs, beside its balance, and whether it is secured."""
+        reply = self.ask(_line("need", account))
+        amount = reply["need"]
+        need = int(amount) if amount.isdecimal() else amount
+        return Need(int(reply["balance"]), need, reply["secured"])
 
     def propose(
         self,

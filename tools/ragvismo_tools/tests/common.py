@@ -22,6 +22,7 @@ EXAMPLES = {
     "serve": "serve",
     "proposals": "serve",
     "phases": "serve",
+    "secured": "serve",
     "hundred": "serve",
     "serve-sessions": "serve-sessions",
 }
