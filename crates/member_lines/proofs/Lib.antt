@@ -1,3 +1,4 @@
+pub mod Ending
 pub mod Noting
 pub mod Passing
 pub mod Ruling

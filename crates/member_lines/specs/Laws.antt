@@ -1,5 +1,5 @@
 -- What is promised of lines that sessions say.
-use Rattle.std.specs.Prelude.{ℕ, ◌≡◌, ◌+◌, ⊤, false, List, [], ◌∷◌, Option, Some, None, Result, Ok, Err}
+use Rattle.std.specs.Prelude.{ℕ, ◌≡◌, ◌+◌, ⊤, false, List, [], ◌∷◌, ◌++◌, Option, Some, None, Result, Ok, Err}
 use Rattle.command_text.specs.declared.asked.Fault.{Fault}
 use Rattle.command_text.specs.declared.command.Command.TheVariants as command
 use Rattle.command_text.specs.declared.requests.Request.{Request}
@@ -14,6 +14,8 @@ use Rattle.members.specs.Refusals.{rule_refusals}
 use Rattle.members.specs.Rule.{is_operator}
 use Rattle.members.specs.declared.refusal.MemberRefusal.{MemberRefusal}
 use Rattle.members.specs.declared.refusal.MemberRefusal.TheVariants.{NotAllowed}
+use Rattle.session_laws.specs.Laws.{ToldOnce}
+use Rattle.session_lines.specs.Served.{without_feed}
 use Rattle.member_lines.specs.Lines.{MemberState, member_line}
 use Rattle.member_lines.specs.Refused.{refused_text}
 use Rattle.member_lines.specs.Runs.{SaidStep, served_line}
@@ -128,3 +130,12 @@ module _ {S : Type 0} (exchange : S → ExchangeState) (says : SaidStep S) where
       (number : ℕ) (state : MemberState S) (said : SaidBody) (request : Request) (account : ℕ)
       → owns state.members.owners said.session account ≡ false → is_operator said.session ≡ false → tells_of request ≡ Some account → said_in SERVED said.body ≡ Ok request
       → member_line exchange says said.session number state said.body ≡ (refused_text number NotAllowed, state)
+
+  -- ---- once
+  -- what is written for a line ends with a line feed
+  abbrev pub EndsSaid : Type 0
+  EndsSaid = (number : ℕ) (state : S) (line : List ℕ) → (served_line says number state line).0 ≡ without_feed (served_line says number state line).0 ++ 10 ∷ []
+
+  -- then each message takes effect once, in its session's order
+  abbrev pub BodiesTellOnce : Type 0
+  BodiesTellOnce = EndsSaid → (start : MemberState S) (input : List ℕ) → ToldOnce (member_line exchange says) start input

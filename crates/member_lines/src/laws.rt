@@ -1,6 +1,6 @@
 //! Laws over the answers to lines that sessions say: each is the contract of a function that does
 //! nothing.
-ghost use Rattle.member_lines.specs.Laws.{AllowedAsServed, LinesMoveByRule, LiveOrdersStayFew, OthersAreRefused, OwnersAreKept, QuotasAreKept, RefusalsAreTold};
+ghost use Rattle.member_lines.specs.Laws.{AllowedAsServed, BodiesTellOnce, LinesMoveByRule, LiveOrdersStayFew, OthersAreRefused, OwnersAreKept, QuotasAreKept, RefusalsAreTold};
 
 use crate::requests::AnswersRequests;
 
@@ -41,4 +41,9 @@ pub fn lines_move_by_rule<A: AnswersRequests>()
 /// Of an account its owner is told, and the operator, and no other.
 pub fn others_are_refused<A: AnswersRequests>()
     ensures { OthersAreRefused A.exchange_in A.said_step }
+{}
+
+/// Where what is inside ends its lines, each message takes effect once, in its session's order.
+pub fn bodies_tell_once<A: AnswersRequests>()
+    ensures { BodiesTellOnce A.exchange_in A.said_step }
 {}
