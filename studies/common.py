@@ -341,7 +341,7 @@ def save(report: Report, path: pathlib.Path) -> None:
 def beside(places: Iterable[float], at: int, of: int) -> list[float]:
     """Places a little beside one another for each of several lines, so that no interval stands on
     another one."""
-    return [place + 0.1 * (at - (of - 1) / 2) for place in places]
+    return [place + 0.12 * (at - (of - 1) / 2) for place in places]
 
 
 def show(

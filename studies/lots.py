@@ -155,7 +155,7 @@ def draw_cases(found: dict[Case, list[Found]], panels: Sequence[Any]) -> None:
             places = common.beside(range(len(mine)), at, len(KINDS))
             common.show(axes, places, losses, look, label=kind, markerfacecolor="w")
         axes.set_xticks(range(len(mine)), [getattr(case, name) for case in mine])
-        axes.set(ylabel="surplus lost (%)", ylim=(0, None))
+        axes.set_ylabel("surplus lost (%)")
     panels[0].set_xlabel("greatest quantity of an order (60 orders)")
     panels[1].set_xlabel("orders (quantities of 1 to 10)")
     panels[0].legend(frameon=False, ncols=3, loc="lower center", bbox_to_anchor=(0.5, 1))

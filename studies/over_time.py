@@ -136,8 +136,8 @@ def draw_cases(found: dict[Case, list[Day]], panels: Sequence[Any]) -> None:
         stand = common.beside(places, at, len(WAYS))
         common.show(upper, stand, [[it.surplus for it in of] for of in days], look, **about)
         common.show(lower, stand, [[it.waited for it in of] for of in days], look, **about)
-    upper.set(ylabel="surplus of a day (ticks)", ylim=(0, None))
-    upper.legend(frameon=False)
+    upper.set_ylabel("surplus of a day (ticks)")
+    upper.legend(frameon=False, loc="upper right")
     lower.set(ylabel="waited (% of the day)", ylim=(0, None), xlabel="auctions a day")
     for axes in panels:
         axes.set_xticks(places, AUCTIONS)

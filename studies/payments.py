@@ -185,18 +185,20 @@ def draw_cases(found: dict[Case, list[Found]], panels: Sequence[Any]) -> None:
     of_values = [found[Case(orders, 0)] for orders in ORDERS]
     for at, (rule, look) in enumerate(zip(RULES, ("k-o", "k--s"))):
         replies = [shades(of, rule) for of in of_values]
-        places = common.beside(range(len(ORDERS)), at, len(RULES))
-        common.show(upper, places, replies, look, label=rule, markerfacecolor="w")
+        stand = common.beside(range(len(ORDERS)), at, len(RULES))
+        common.show(upper, stand, replies, look, label=rule, markerfacecolor="w")
     upper.set_xticks(range(len(ORDERS)), ORDERS)
-    upper.set(
-        xlabel="orders, all others at their values", ylabel="best reply (ticks off)", ylim=(0, None)
-    )
-    upper.legend(frameon=False)
-    others = [found[Case(ORDERS[1], shade)] for shade in SHADES]
-    common.show(lower, SHADES, [shades(of, RULES[0]) for of in others], "k-o", label="best reply")
-    lower.plot(SHADES, SHADES, "k:", lw=1.2, label="as the others")
-    lower.set(xlabel="the others' ticks off", ylabel="best reply (ticks off)", ylim=(0, None))
-    lower.legend(frameon=False)
+    upper.set_xlabel("orders, all others at their values")
+    others = [shades(found[Case(ORDERS[1], shade)], RULES[0]) for shade in SHADES]
+    places = range(len(SHADES))
+    common.show(lower, places, others, "k-o", label="best reply", markerfacecolor="w")
+    lower.plot(places, SHADES, "k:", lw=1.2, label="as the others")
+    lower.set_xticks(places, SHADES)
+    lower.set_xlabel("the others' ticks off")
+    for axes in panels:
+        # Room for marks at 0 below, and for the legend above; the dotted line goes on.
+        axes.set(ylabel="best reply (ticks off)", ylim=(-0.25, 4))
+        axes.legend(frameon=False, loc="upper right")
 
 
 def study(given: Given) -> Report:
