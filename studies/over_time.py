@@ -8,12 +8,13 @@
 model's price with noise of 8 ticks. There are 1, 2, 4, .. 64 auctions a day, at equal distances,
 the last at its end. An order is in the first auction after its time; what is not filled rests, and
 is placed again for the next auction in whole options: a part of one that is left is lost, and told.
-N days (20). Each day is cleared jointly and with each option alone.
+N days (40). Each day is cleared jointly and with each option alone.
 
-Told are the day's surplus, the sum over its auctions, with its share of the surplus of one joint
-auction of all orders, the most that any auctions can leave; how much is filled; and how long an
-option that is filled has waited, in hundredths of the day. Means have intervals of 95 percent by t,
-and the surpluses by resampling too. Every line is audited.
+Told are the day's surplus, the sum over its auctions; its share, day by day, of the surplus of one
+joint auction of all orders, the most that any auctions can leave; what it leaves more jointly than
+with each option alone on the same day; how much is filled; and how long an option that is filled
+has waited, in hundredths of the day. Means have intervals of 95 percent by t, and the surpluses and
+shares by resampling too. Every line is audited.
 
 The paper of Wang, Pennock, Devanur, Rothschild, Tao and Wellman (EC 2021) clears one batch; a day
 of auctions stands in no part of it that is known here. No order is cancelled or moved, and values
@@ -41,13 +42,14 @@ from common import BadInput, Given, Report, Table
 from ragvismo import Batch, Cleared, Order, clear
 from ragvismo.clearing import Mechanism
 
-WHOLE, ORDERS, STRIKES, NOISE = 20, 128, 9, 8
+WHOLE, ORDERS, STRIKES, NOISE = 40, 128, 9, 8
 AUCTIONS = (1, 2, 4, 8, 16, 32, 64)
 WAYS: tuple[Mechanism, ...] = ("joint", "each")
 NAMES = {"joint": "jointly", "each": "each option alone"}
 HEAD = (
     *("Auctions", "Cleared", "n", "Surplus of a day", "resampled", "% of one joint auction"),
-    *("Filled, %", "Waited, % of the day", "Options lost in parts, %"),
+    *("resampled", "Jointly less alone", "Filled, %", "Waited, % of the day"),
+    "Options lost in parts, %",
 )
 
 
@@ -116,12 +118,21 @@ def one(case: Case, number: int, given: Given) -> tuple[Day, list[Cleared]]:
     return day, lines
 
 
-def row(case: Case, days: Sequence[Day], most: Sequence[Day]) -> list[object]:
-    surplus = [it.surplus for it in days]
+def shares(days: Sequence[Day], most: Sequence[Day]) -> list[float]:
+    """Each day's surplus in percent of that of one joint auction of its orders."""
+    return [common.share([it.surplus], [of.surplus]) for it, of in zip(days, most, strict=True)]
+
+
+def row(case: Case, days: Sequence[Day], most: Sequence[Day], alone: Sequence[Day]) -> list[object]:
+    """The cells of a case, beside one joint auction of each day, and as many with each option
+    alone."""
+    surplus, of_most = [it.surplus for it in days], shares(days, most)
+    more = [it.surplus - its.surplus for it, its in zip(days, alone, strict=True)]
     return [
         *(case.auctions, NAMES[case.way], len(days)),
         *(common.told(surplus, 1), common.ends(surplus, 1)),
-        f"{common.share(surplus, (it.surplus for it in most)):.1f}",
+        *(common.told(of_most, 1), common.ends(of_most, 1)),
+        common.told(more, 1) if case.way == "joint" else "",
         *(common.told([it.filled for it in days], 1), common.told([it.waited for it in days], 1)),
         f"{statistics.mean(it.lost for it in days):.1f}",
     ]
@@ -129,14 +140,14 @@ def row(case: Case, days: Sequence[Day], most: Sequence[Day]) -> list[object]:
 
 def draw_cases(found: dict[Case, list[Day]], panels: Sequence[Any]) -> None:
     upper, lower = panels
-    places = range(len(AUCTIONS))
+    places, most = range(len(AUCTIONS)), found[Case(1, "joint")]
     for at, (way, look) in enumerate(zip(WAYS, ("k-o", "k--s"))):
         days = [found[Case(count, way)] for count in AUCTIONS]
         about = {"label": NAMES[way], "markerfacecolor": "w"}
         stand = common.beside(places, at, len(WAYS))
-        common.show(upper, stand, [[it.surplus for it in of] for of in days], look, **about)
+        common.show(upper, stand, [shares(of, most) for of in days], look, **about)
         common.show(lower, stand, [[it.waited for it in of] for of in days], look, **about)
-    upper.set_ylabel("surplus of a day (ticks)")
+    upper.set_ylabel("surplus (% of the most)")
     upper.legend(frameon=False, loc="upper right")
     lower.set(ylabel="waited (% of the day)", ylim=(0, None), xlabel="auctions a day")
     for axes in panels:
@@ -147,7 +158,9 @@ def study(given: Given) -> Report:
     cases = [Case(count, way) for count in AUCTIONS for way in WAYS]
     found = common.trials(one, cases, given, "over-time")
     most = found[Case(1, "joint")]
-    rows = [row(case, days, most) for case, days in found.items()]
+    rows = [
+        row(case, days, most, found[Case(case.auctions, "each")]) for case, days in found.items()
+    ]
     title = f"Days of {ORDERS} orders, noise {NOISE}. Surplus in ticks."
     return Report([Table(title, HEAD, rows)], 2, lambda panels: draw_cases(found, panels))
 

@@ -122,9 +122,10 @@ class Studies(unittest.TestCase):
             self.drawn(payments.study(PLAIN._replace(batches=2)))
 
     def test_over_time(self) -> None:
-        case = over_time.Case(1, "joint")
-        days = self.whole(over_time.one, case, over_time.WHOLE)
-        self.committed("over_time", *over_time.row(case, days, days))
+        joint, each = (over_time.Case(1, way) for way in over_time.WAYS)
+        days, alone = (self.whole(over_time.one, it, over_time.WHOLE) for it in (joint, each))
+        for case, of in ((joint, days), (each, alone)):
+            self.committed("over_time", *over_time.row(case, of, days, alone))
         with mock.patch.object(over_time, "AUCTIONS", (1, 4)):
             self.drawn(over_time.study(PLAIN._replace(batches=2)))
 
