@@ -8,7 +8,7 @@ The fills are the same; what is paid differs. At limits, as the exchange does it
 the surplus and no trader gains over its limit. At the measure's prices, of the certificate, each
 order pays or gets what the measure prices its option at: the house keeps nothing, and the traders
 gain the surplus. Of one chain of nine strikes traders want calls and puts, each with a value of its
-own in whole ticks, the model's price and noise of 8 ticks. N batches (20) of 20, 60 and 180 orders.
+own in whole ticks, the model's price and noise of 8 ticks. N batches (40) of 20, 60 and 180 orders.
 
 First all write their values as limits, but one: of four traders a batch, drawn beforehand, each
 tries limits that are 0, 1, 2, 4, 8, 16 and 32 ticks better for it. Its best reply is the one by
@@ -45,7 +45,7 @@ from chains import listed, worth
 from common import BadInput, Given, Report, Table
 from ragvismo import Batch, Cleared, Order, buy, sell
 
-WHOLE, STRIKES, NOISE, TRIED = 20, 9, 8, 4
+WHOLE, STRIKES, NOISE, TRIED = 40, 9, 8, 4
 ORDERS = (20, 60, 180)
 SHADES = (0, 1, 2, 4, 8, 16, 32)
 RULES = ("at limits", "at the measure's prices")
