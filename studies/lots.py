@@ -8,7 +8,7 @@ The exchange fills any fraction of an order. Beside it stand whole lots, where e
 number of options, and all or nothing, where an order is filled whole or not at all. 60 orders for
 the calls and puts of nine strikes, by beliefs around the model's price with noise of 8 ticks, have
 quantities of 1, of 1 to 3, of 1 to 10 or of 1 to 30 options; and there are 20, 60 and 120 orders
-of 1 to 10. Of each there are N batches (8). The greatest surpluses of whole lots and of all or
+of 1 to 10. Of each there are N batches (24). The greatest surpluses of whole lots and of all or
 nothing are found by a mixed-integer program of HiGHS over the prices at which payoffs bend. What it
 finds is proposed to the exchange, which judges in exact fractions what it leaves; that this is the
 greatest, up to a hundred-thousandth, is the word of HiGHS. Also told is what the exchange's own
@@ -41,7 +41,7 @@ from common import BadInput, Given, Report, Table
 from ragvismo import Batch, Cleared, Exchange, NoCover, clear, solvers
 from ragvismo.proposals import line_states
 
-WHOLE, STRIKES, NOISE = 8, 9, 8
+WHOLE, STRIKES, NOISE = 24, 9, 8
 # What HiGHS may miss, as a part of the greatest surplus, and its seconds for a program.
 GAP, SECONDS = 1e-5, 600
 HEAD = (
