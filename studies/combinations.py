@@ -8,9 +8,10 @@ Two kinds of books (studies/books.py), both of calls and puts that are bid and a
 their traders: random ones, on one to three of the underlyings with weights -1, 1 and 2; and names,
 where six in ten orders are on a single underlying, and the others on a pair (one less another), on
 the index (one of each) or on an odd basket. Of each kind and each number of underlyings there are N
-batches of 20 orders and of 64 (6); with N of 12 or more also a twelfth as many of 128, or on two
-underlyings of 256. More orders on more underlyings take the solver up to half a minute a batch, and
-its tree may not fit (docs/PERFORMANCE.md). Each batch is cleared
+batches of 20 orders and of 64 (24), and a 24th as many of 128 and of 256, which take the solver up
+to half a minute each. It is capped by its line of at most 1,000,000 bytes: where the tree that
+proves all its fills is longer, it fills a part of the orders, and the bound stays that of all. So
+the gaps are larger there, and told. Each batch is cleared
 
     joint    with all in one market, by the exchange's own run of 2,000 units and its solver
     sum      with a market for each weighted sum, of all strikes
@@ -48,10 +49,13 @@ import books
 from common import BadInput, Given, Report, Table
 from ragvismo import Batch, Cleared, Exchange, Order, clear, solvers
 
-WHOLE, OWN_BUDGET = 6, 2_000
-# The orders of a batch on so many underlyings, and after how many of 20 orders there is one more.
-SIZES = {2: (20, 64, 256), 3: (20, 64, 128), 4: (20, 64, 128), 8: (20, 64, 128)}
-ONE_OF = {20: 1, 64: 1, 128: 12, 256: 12}
+WHOLE, OWN_BUDGET = 24, 2_000
+# The orders of a batch on so many underlyings.
+SIZES = dict.fromkeys((2, 3, 4, 8), (20, 64, 128, 256))
+# Of so many batches one is made of so many orders, which take long: the one at this place.
+EVERY, PLACES = 24, {128: 11, 256: 23}
+# What the books are called in the figure.
+ABOUT = {"random": "random books", "names": "books of names, pairs, an index, baskets"}
 # So many batches of so many orders are given to both solvers.
 BOTH_SOLVERS, BOTH_ORDERS = 2, 20
 # A bound of no more ticks is taken for nothing.
@@ -159,7 +163,7 @@ def together(batch: Batch, found: Sequence[Cleared]) -> Market:
 
 
 def one(case: Case, number: int, given: Given) -> tuple[Found | None, list[Cleared]]:
-    if (number + 1) % ONE_OF[case.orders]:
+    if number % EVERY != PLACES.get(case.orders, number % EVERY):
         return None, []
     draw = random.Random(f"combinations {case.books} {case.underlyings} {number}")
     batch = books.KINDS[case.books](case.underlyings, case.orders, draw)
@@ -179,6 +183,11 @@ def one(case: Case, number: int, given: Given) -> tuple[Found | None, list[Clear
     return found, [joint, *(line for it in parted.values() for line in it)]
 
 
+def brief(percent: float) -> str:
+    """A percentage by its first digit, or where it is greater in whole ones."""
+    return f"{percent:.0f}" if percent >= 1 else f"{percent:.1g}"
+
+
 def measures(of: Sequence[Found]) -> list[object]:
     """The cells on surplus and gap."""
     gaps = [it.gap for it in of]
@@ -187,7 +196,7 @@ def measures(of: Sequence[Found]) -> list[object]:
     surplus += [[it.parts[name].surplus for it in of] for name in PARTS]
     return [
         *(len(of), common.counts([it.mark for it in of])),
-        *(f"{it:.1g}" for it in (statistics.median(gaps), max(gaps))),
+        *map(brief, (statistics.median(gaps), max(gaps))),
         *(f"{statistics.mean(it):,.1f}" for it in surplus),
         *(common.told(more, 1), common.ends(more, 1)),
     ]
@@ -213,33 +222,50 @@ def work(of: Sequence[Found]) -> list[object]:
     return [
         *(f"{statistics.median(units):,.0f}", f"{max(units):,}"),
         *(f"{statistics.median(nodes):,.0f}", f"{max(nodes):,}"),
-        f"{max(apart):.1g}" if apart else "",
+        brief(max(apart)) if apart else "",
+    ]
+
+
+def places_of(cases: Sequence[Case]) -> list[float]:
+    """A place for each case, with a gap where the number of underlyings changes."""
+    counts = [it.underlyings for it in cases]
+    return [
+        place + sum(a != b for a, b in zip(counts, counts[1 : place + 1])) / 2
+        for place in range(len(cases))
     ]
 
 
 def draw_cases(found: dict[Case, list[Found]], panels: Sequence[Any]) -> None:
-    """Of each kind of books the joint surplus and the others', in percent of the bound."""
+    """Of each kind of books the joint surplus and the others', in percent of the bound; a line
+    joins the cases on as many underlyings."""
     names = {"joint": "one market", "sum": "by sum", "strike": "by strike", "alone": "alone"}
-    cases = list(found)
     for axes, kind in zip(panels, books.KINDS):
-        mine = [case for case in cases if case.books == kind]
+        mine = [case for case in found if case.books == kind]
+        places = dict(zip(mine, places_of(mine)))
+        of = {count: [it for it in mine if it.underlyings == count] for count in SIZES}
         for name, look in zip(names, ("k-o", "k--s", "k-.^", "k:D")):
-            shares = [
-                common.share(
-                    ((it.joint if name == "joint" else it.parts[name]).surplus for it in found[at]),
-                    (it.bound for it in found[at]),
-                )
-                for at in mine
-            ]
-            lines = {"lw": 1.6, "markersize": 6, "markerfacecolor": "w", "label": names[name]}
-            axes.plot(range(len(mine)), shares, look, **lines)
-        axes.set_xticks(range(len(mine)), [f"{it.underlyings}\n{it.orders}" for it in mine])
-        axes.set(ylabel="surplus (% of the bound)", ylim=(0, 105), title=kind)
-    panels[-1].set_xlabel("underlyings, and below them orders")
-    # Over the lines of the upper panel, which end at 100.
-    panels[0].set_ylim(0, 160)
-    panels[0].set_yticks(range(0, 101, 25))
-    panels[0].legend(frameon=False, ncols=2, loc="upper center")
+            about = {"lw": 1.6, "markersize": 6, "markerfacecolor": "w", "label": names[name]}
+            for cases in of.values():
+                at = [places[it] for it in cases]
+                axes.plot(at, [part_of_bound(found[it], name) for it in cases], look, **about)
+                about["label"] = "_"
+        axes.set_xticks(list(places.values()), [it.orders for it in mine], fontsize="small")
+        middles = [statistics.mean(places[it] for it in cases) for cases in of.values() if cases]
+        axes.set_xticks(middles, [f"\n{it} underlyings" for it in of if of[it]], minor=True)
+        axes.xaxis.remove_overlapping_locs = False
+        axes.tick_params("x", which="minor", length=0, pad=8, labelsize="small")
+        ends = -0.4, max(places.values()) + 0.4
+        axes.set(xlabel=f"orders ({ABOUT[kind]})", xlim=ends, ylim=(-5, 105))
+        axes.set(ylabel="% of the bound", yticks=range(0, 101, 25))
+    above = {"loc": "lower center", "bbox_to_anchor": (0.5, 1), "borderaxespad": 0}
+    panels[0].legend(frameon=False, ncols=4, columnspacing=1, handlelength=1.8, **above)
+
+
+def part_of_bound(of: Sequence[Found], name: str) -> float:
+    """What batches leave in one market, or in the markets of this name, in percent of what they
+    can at most."""
+    left = [it.joint if name == "joint" else it.parts[name] for it in of]
+    return common.share((it.surplus for it in left), (it.bound for it in of))
 
 
 def study(given: Given) -> Report:
