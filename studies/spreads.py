@@ -6,7 +6,7 @@
 
 A bid and an ask stand for each call and each put of a chain, around a middle of its own: the
 model's price and noise. One of noise and strikes is varied at a time, with N chains for each value
-(10); the same options, quantities and draws at every noise, and every book as it stands, whether or
+(40); the same options, quantities and draws at every noise, and every book as it stands, whether or
 not it would trade. Told are two kinds of spreads, of all options:
 
     exact    between the price above which a further buy adds to what the market can share, and the
@@ -47,7 +47,7 @@ from ragvismo.exchange import command_of
 from ragvismo.orders import Side
 from ragvismo.prices import order_at, times_of
 
-WHOLE = 10
+WHOLE = 40
 USUAL = {"noise": 2, "strikes": 9}
 VARIED = {"noise": (0, 1, 2, 4, 8), "strikes": (3, 5, 9, 13, 17)}
 NAMES = {"noise": "noise of middles (ticks)", "strikes": "strikes in the chain"}
