@@ -51,7 +51,8 @@ class Examples(unittest.TestCase):
         for name in EXAMPLES:
             text = (TOP / f"examples/{name}.replies").read_bytes()
             lines, own = text.splitlines(), re.compile(
-                rb'"of":|"reply":"(?:gate|quoted|priced|margin|book|proposed|positions|closed|secured)"'
+                rb'"of":|"reply":"(?:gate|quoted|priced|margin|book|proposed|positions|closed'
+                rb'|secured)"'
             )
             batches, bounded, optimal = (
                 sum(part in line for line in lines)

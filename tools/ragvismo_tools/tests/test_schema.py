@@ -54,6 +54,7 @@ class Schema(unittest.TestCase):
             "serve": {"quoted", "priced", "margin", "refused"},
             "proposals": {"book", "proposed", "cleared", "positions"},
             "phases": {"closed", "refused", "proposed", "cleared"},
+            "secured": {"secured", "need", "refused"},
             "hundred": {"book", "proposed", "cleared"},
             "serve-sessions": {"answer", "gate"},
         }
