@@ -71,7 +71,7 @@ function replyIn(text, value) {
     }
     if (isAsked(value)) {
         pass(ASKED, value);
-        return between(text, `{"of":`,
+        return between(text, "{\"of\":",
             `,"reply":"asked","session":${spelled(at(value, "session"))}}`);
     }
     return text;

@@ -15,7 +15,7 @@ import {pays, signed} from "./batch.mjs";
 /** @typedef {[what: string, here: string, holds: boolean]} Demand */
 
 /** The most nodes times legs of a tree in a line marked bounded. */
-const MOST_WALKED = 2_000_000;
+const MOST_WALKED = 2000000;
 
 /** What must be so of the lengths of a batch's lists.
  * @param {Batch} batch
