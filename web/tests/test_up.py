@@ -12,6 +12,11 @@ from tests import WEB
 from tests.trading import IS_SKIPPED, PROGRAM, WHY, Visitor, free_port, wait_for
 
 
+def heed_interrupts() -> None:
+    """Ctrl-C counts, also where the tests run in the background of a shell, which ignores it."""
+    signal.signal(signal.SIGINT, signal.SIG_DFL)
+
+
 @unittest.skipIf(IS_SKIPPED, WHY)
 class Up(unittest.TestCase):
     def setUp(self) -> None:
@@ -24,7 +29,11 @@ class Up(unittest.TestCase):
         words = [str(WEB / "up"), str(self.folder / "all"), "--program", str(PROGRAM)]
         more = ["--port", str(self.port), "--redis", str(self.redis)]
         process = subprocess.Popen(
-            [*words, *more], stdout=subprocess.PIPE, stderr=subprocess.DEVNULL, text=True
+            [*words, *more],
+            stdout=subprocess.PIPE,
+            stderr=subprocess.DEVNULL,
+            text=True,
+            preexec_fn=heed_interrupts,
         )
         self.addCleanup(process.kill)
         assert process.stdout
