@@ -1,8 +1,8 @@
 """Measures the program and prints the tables of docs/PERFORMANCE.md, each with its day and machine.
 
     tools/bench [stream] [clears] [sides] [stream-sides] [clearing-stream] [fractions] [journals]
-                [several] [trees] [sessions] [quotes] [margin] [passes] [peers] [live]
-                [proposals] [near] [fixed] [--quick] [--runs N] [--program FILE]
+                [several] [trees] [sessions] [quotes] [margin] [secured] [passes] [peers]
+                [live] [proposals] [near] [fixed] [--quick] [--runs N] [--program FILE]
                 [--before FILE] [--parts FILE]
 
 With no table named, the first six are printed but sides and stream-sides, which want an older
@@ -10,17 +10,18 @@ program as well (--before FILE), and but what lacks its program, as a line on st
 These two clear the same batches, or run the same streams, with both programs in turn, and count
 their instructions by valgrind, which does not depend on what else the machine does. The next six
 measure the words check, sessions, quotes and guarded, and clears on several underlyings, where the
-program has them; passes counts by cases_bench which clears fit numbers of 64 bits. The last sets
-exact solvers beside a clear: QSopt_ex (esolver) and glpsol --exact, which Debian has in qsopt-ex
-and glpk-utils; one that is not installed is left out, and a line says so. Live prints four tables
-of the word serve: a file through it beside run, a line and its reply over a pipe, starting again,
-and memory. Proposals are lines of serve that are judged; near is what the word propose finds. Fixed
-counts the instructions of six clears, which a change is compared by; with --before FILE the older
-program's stand beside. Inputs are made from fixed seeds, so that anybody can take the figures
-again: the program is the one that ./build makes (crates/exchange_cli/out/exchange_cli), that of
-fractions and passes the one that `rt run` makes in crates/cases_bench. A time is the processor time
-of a whole process, the least of three runs (or of --runs N), its output thrown away; memory is the
-greatest that it held. With --quick there is one run, and less of everything.
+program has them; secured sets an order of a secured account beside that of another; passes counts
+by cases_bench which clears fit numbers of 64 bits. The last sets exact solvers beside a clear:
+QSopt_ex (esolver) and glpsol --exact, which Debian has in qsopt-ex and glpk-utils; one that is not
+installed is left out, and a line says so. Live prints four tables of the word serve: a file through
+it beside run, a line and its reply over a pipe, starting again, and memory. Proposals are lines of
+serve that are judged; near is what the word propose finds. Fixed counts the instructions of six
+clears, which a change is compared by; with --before FILE the older program's stand beside. Inputs
+are made from fixed seeds, so that anybody can take the figures again: the program is the one that
+./build makes (crates/exchange_cli/out/exchange_cli), that of fractions and passes the one that `rt
+run` makes in crates/cases_bench. A time is the processor time of a whole process, the least of
+three runs (or of --runs N), its output thrown away; memory is the greatest that it held. With
+--quick there is one run, and less of everything.
 """
 
 from __future__ import annotations
@@ -54,6 +55,7 @@ LATER: dict[str, Table] = {
     "sessions": reading.sessions,
     "quotes": asking.quotes,
     "margin": asking.margin,
+    "secured": asking.secured,
     "passes": clears.passes,
     "peers": peers.peers,
     "live": live.live,

@@ -191,3 +191,51 @@ def margin(program: pathlib.Path, quick: bool) -> None:
     table(
         "Margins", ["Underlyings", "Positions", "Seconds", "Units", "Searches", "End", "MiB"], rows
     )
+
+
+def held_and_offered(held: int, offered: int, underlyings: int) -> list[str]:
+    """Account 1 holds so many options, each another, that account 2 sold, and offers so many."""
+
+    def order(side: str, account: int, number: int, price: int) -> str:
+        weights = [0] * underlyings
+        for place in {number % underlyings, 3 * number % underlyings}:
+            weights[place] = 1
+        kind, strike = ("put", "call")[number % 2], 10 + number
+        head = f"{side},{account},1,{kind},{strike},{price},1"
+        return ",".join([head, *map(str, weights)])
+
+    lines = [f"market,1,{underlyings}", "open,1", "open,2"]
+    lines += [f"deposit,{account},100000000000" for account in (1, 2)]
+    for number in range(held):
+        lines += [order("buy", 1, number, 50), order("sell", 2, number, 5)]
+    lines.append("clear,1,20000")
+    return lines + [order("sell", 1, held + number, 9) for number in range(offered)]
+
+
+def an_order_more(program: pathlib.Path, before: list[str], count: int, accepted: int) -> float:
+    """The seconds of an order after these lines, and of its cancel, in so many turns."""
+    weights = ",".join("1" * int(before[0].split(",")[2]))
+    turns = [
+        line
+        for number in range(accepted + 1, accepted + 1 + count)
+        for line in (f"sell,1,1,put,5,{3 + number % 7},1,{weights}", f"cancel,1,{number}")
+    ]
+    seconds = [
+        least(program, ["serve"], "\n".join(lines))[0] for lines in ([*before, *turns], before)
+    ]
+    return max(0.0, seconds[0] - seconds[1]) / count
+
+
+def secured(program: pathlib.Path, quick: bool) -> None:
+    """An order of an account, and its cancel, where the account is secured and where it is not."""
+    rows = []
+    for underlyings, held, offered in ((1, 20, 20), (1, 100, 100), (8, 20, 0)):
+        before = held_and_offered(held, offered, underlyings)
+        count = (200 if quick else 2_000) // (1 if underlyings == 1 else 10)
+        turns = [
+            an_order_more(program, lines, count, 2 * held + offered)
+            for lines in (before, [*before, "secure,1"])
+        ]
+        rows.append([underlyings, held, offered, *(f"{1e6 * spent:.0f}" for spent in turns)])
+    head = ["Underlyings", "Held", "Live", "Microseconds, not secured", "secured"]
+    table("An order and its cancel of a secured account", head, rows)
