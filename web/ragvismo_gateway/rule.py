@@ -45,6 +45,7 @@ WORDS = {
     "bundle": Who.OWNER,
     "cancel": Who.OWNER,
     "withdraw": Who.OWNER,
+    "secure": Who.OWNER,
     "balance": Who.OWNER_OR_OPERATOR,
     "positions": Who.OWNER_OR_OPERATOR,
     "propose": Who.SOLVER,
@@ -54,6 +55,7 @@ WORDS = {
     "quote": Who.NOBODY,
     "price": Who.NOBODY,
     "margin": Who.NOBODY,
+    "need": Who.NOBODY,
 }
 PLACING = ("buy", "sell", "bundle")
 

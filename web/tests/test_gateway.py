@@ -128,6 +128,8 @@ class Gateway(Trading):
             "bundle,111,3,buy,1,1,1,1,call,1,1",
             f"cancel,111,{number}",
             "withdraw,111,1",
+            "secure,111",
+            "need,111",
             "balance,111",
             "positions,111,3",
             "balance,0",
@@ -158,6 +160,13 @@ class Gateway(Trading):
         after = ana.get("/balance/111")
         self.assertEqual(after["balance"], before["balance"])
         self.assertEqual(after["reserved"], "1")
+
+    def test_an_owner_secures_an_account(self) -> None:
+        ana = self.visitor("ana")
+        self.assertEqual(ana.reply("secure,111")["reply"], "secured")
+        # What the account owes at a high price is above its balance.
+        told = ana.line("sell,111,3,call,1,0,1000,1")
+        self.assertEqual((told.status, told.json()["reply"]["reason"]), (422, "Margin"))
 
     def test_quotas(self) -> None:
         eva = self.visitor("eva")
