@@ -271,6 +271,9 @@ def asked(about: str | None, batches: int) -> Given:
         raise BadInput("--batches is at least 2, and --workers at least 1")
     if given.scheduler and given.workers > 1:
         raise BadInput("--workers are processes here, and --scheduler has its own")
+    for folder in (given.out, given.journals):
+        if folder and not folder.is_dir():
+            raise BadInput(f"{folder} is no folder")
     for file in results(given):
         if given.batches != batches and tracked.is_tracked(file):
             raise BadInput(f"{file} is tracked, and this is not the whole study")

@@ -52,7 +52,10 @@ def run() -> None:
             task.add_argument("--role", choices=ROLES, default="trader")
     tasks.add_parser("list")
     given = words.parse_args()
-    files.make(given.folder)
+    if given.task == "add":
+        files.make(given.folder)
+    elif not (given.folder / FILE).is_file():
+        raise BadUse(f"{given.folder} is no folder of a gateway: it has no {FILE}")
     with told_faults():
         do(given, Members(given.folder / FILE))
 
