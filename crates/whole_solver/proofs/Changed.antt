@@ -8,10 +8,10 @@ use Rattle.lists.proofs.Lists.{refit_is}
 use Rattle.compact_table.proofs.ArenaSteps.{at_set_same, at_set_other}
 use Rattle.equal_runs.specs.Lines.{IsLine, line_size, widest}
 use Rattle.whole_solver.specs.Rows.{line_in, row_at}
-use Rattle.whole_solver.specs.Stored.{AreStored, HasSigns, IsStored, IsWrittenAt, SameCounts, is_wide_at, rows_in, size_at}
+use Rattle.whole_solver.specs.Stored.{AreStored, HasSigns, IsChangedAt, IsStored, IsWrittenAt, SameCounts, is_wide_at, rows_in, size_at}
 use Rattle.whole_solver.specs.declared.rows.Rows.{Rows}
 use Rattle.whole_solver.proofs.Standing.{IsStill, row_standing_short, row_standing_wide, rows_many, still_stored}
-use Rattle.whole_solver.proofs.Stored.{rows_changed}
+use Rattle.whole_solver.proofs.Stored.{IsSet, rows_changed, set_is}
 use Rattle.whole_solver.proofs.Turned.{line_wider, size_below}
 use Rattle.whole_solver.proofs.Written.{counts_then}
 
@@ -52,18 +52,22 @@ stored_wide w i r low flag size signs =
     }
 
 -- ---- row i alone is written, in either arena
-pub record IsChangedAt (i : ℕ) (old new : Rows) : Type 0 where
-  pub flags : new.is_wide.items ≡ set old.is_wide.items i (is_wide_at new i)
-  pub sizes : new.sizes.items ≡ set old.sizes.items i (size_at new i)
-  pub short : new.short.rows ≡ set old.short.rows i (row_at new.short.rows i)
-  pub wide : new.wide.rows ≡ set old.wide.rows i (row_at new.wide.rows i)
-  pub spare : new.short.spare ≡ old.short.spare
-  pub width : new.short.width ≡ old.short.width
+pub changed_at : {i : ℕ} {old new : Rows} → IsSet Bool i old.is_wide.items new.is_wide.items → IsSet ℕ i old.sizes.items new.sizes.items → IsSet (List ℤ) i old.short.rows new.short.rows → IsSet (List ℤ) i old.wide.rows new.wide.rows
+    → new.short.spare ≡ old.short.spare → new.short.width ≡ old.short.width → IsChangedAt i old new
+changed_at {i} {old} {new} flags sizes short wide spare width =
+    record {
+      flags = set_is i old.is_wide.items new.is_wide.items false flags;
+      sizes = set_is i old.sizes.items new.sizes.items 0 sizes;
+      short = set_is i old.short.rows new.short.rows [] short;
+      wide = set_is i old.wide.rows new.wide.rows [] wide;
+      spare = spare;
+      width = width;
+    }
 
 at_other : {A : Type 0} (old new : List A) (i j : ℕ) (y d : A) → new ≡ set old i y → (j ≡ i → ⊥) → get_or new j d ≡ get_or old j d
 at_other {A} old new i j y d e apart = ap (λ (xs : List A). get_or xs j d) e ∙ at_set_other old i j y d apart
 
-changed_row : (i : ℕ) (old new : Rows) → IsChangedAt i old new → rows_in new ≡ set (rows_in old) i (row_at (rows_in new) i)
+pub changed_row : (i : ℕ) (old new : Rows) → IsChangedAt i old new → rows_in new ≡ set (rows_in old) i (row_at (rows_in new) i)
 changed_row i old new g = rows_changed old.is_wide.items new.is_wide.items old.short.rows new.short.rows old.wide.rows new.wide.rows i _ _ _ g.flags g.short g.wide
 
 changed_others : (w i j : ℕ) (old new : Rows) → IsChangedAt i old new → (j ≡ i → ⊥) → IsStored w old j → IsStored w new j
@@ -77,7 +81,7 @@ changed_others w i j old new g apart s =
       wide = at_other old.wide.rows new.wide.rows i j _ [] g.wide apart;
     }) s
 
-changed_counts : (i : ℕ) (old new : Rows) → IsChangedAt i old new → SameCounts old new
+pub changed_counts : (i : ℕ) (old new : Rows) → IsChangedAt i old new → SameCounts old new
 changed_counts i old new g = record { count = ap length g.short ∙ length-set old.short.rows i (row_at new.short.rows i); spare = g.spare; width = g.width }
 
 pub written : (w i : ℕ) (old new : Rows) → IsChangedAt i old new → IsStored w new i → IsWrittenAt w i old new

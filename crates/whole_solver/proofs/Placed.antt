@@ -1,16 +1,18 @@
 -- The pivot row of a turn, once it is placed.
-use Rattle.std.proofs.Common.{◌≡◌, ℕ, ◌+◌, ◌<◌, ◌≤◌, List, length, drop, refl, sym, ◌∙◌, ap, subst, arith, Bool, true, false, ℤ, pos}
+use Rattle.std.proofs.Common.{◌≡◌, ℕ, ◌+◌, ◌-◌, ◌^◌, ◌<◌, ◌≤◌, List, length, drop, refl, sym, ◌∙◌, ap, subst, arith, Bool, true, false, ℤ, pos, unsigned_abs}
 use Rattle.std.specs.Prelude.{nat_le}
 use Rattle.std.specs.Int.{int_signum}
 use Rattle.std.proofs.lemmas.Bool.{leb-true, leb-false}
 use Rattle.std.proofs.lemmas.List.{get_or_past, length-drop, length-take-le}
-use Rattle.equal_runs.specs.Lines.{Line, AreSizes, IsLine, line_size, number_at}
-use Rattle.equal_runs.specs.WholeTurning.{cut}
+use Rattle.equal_runs.specs.Lines.{Line, AreSizes, IsLine, line_size, number_at, widest}
+use Rattle.equal_runs.specs.WholeTurning.{cut, turned_in}
 use Rattle.equal_runs.proofs.LineSteps.{cut_within, sizes_bound}
-use Rattle.whole_solver.specs.Rows.{IsPivot, column_in, line_in, nonzero_in, row_at}
+use Rattle.whole_solver.specs.Rows.{IsEliminated, IsPivot, column_in, line_in, nonzero_in, row_at}
 use Rattle.whole_solver.specs.Stored.{AreStored, HasSigns, IsKnown, IsPlacedAt, is_wide_at, rows_in}
+use Rattle.whole_solver.specs.declared.mix.Known.{Known}
 use Rattle.whole_solver.specs.declared.rows.Rows.{Rows}
 use Rattle.whole_solver.proofs.Choosing.{in_line}
+use Rattle.whole_solver.proofs.Eliminating.{eliminated_by_less}
 use Rattle.whole_solver.proofs.Standing.{row_standing_short, row_standing_wide, rows_many}
 use Rattle.whole_solver.proofs.Stored.{nonzero_by_signs}
 use Rattle.whole_solver.proofs.Turned.{IsPlaced, listed_still, placed, placed_size}
@@ -28,17 +30,9 @@ line_by_signs w xs ys h long wide = nonzero_by_signs (line_in w xs).numbers (lin
         let high : w ≤ j = leb-true _ _ e in
         ap int_signum (get_or_past (line_in w xs).numbers j (pos 0) (omega (arith, high, long)) ∙ sym (get_or_past (line_in w ys).numbers j (pos 0) (omega (arith, high, wide))))
 
--- what clearing by the pivot row asks for: the line that left is no greater, and the same rows are listed
-pub record IsReady (limit w c r a most : ℕ) (listed : List ℕ) (old new : Rows) : Type 0 where
-  pub known : IsKnown a most listed r w new
-  pub below : a ≤ limit
-  pub stored : AreStored limit w new
-  pub leaving : line_size (cut (line_in w (row_at (rows_in old) r))) ≤ most
-  pub column : nonzero_in (column_in c (rows_in new)) ≡ nonzero_in (column_in c (rows_in old))
-
-module _ (limit w c r a most : ℕ) (old new : Rows) (column : c < w) (pivot : IsPivot w c r (rows_in old)) (stored : AreStored limit w old) (g : IsPlacedAt w c r a most old new) where
-  is_placed : IsPlaced limit w a (row_at (rows_in new) r)
-  is_placed = placed limit w c r a (rows_in old) (row_at (rows_in new) r) column pivot stored.lines g.denominator g.line
+module _ {limit w c r a most : ℕ} {old new : Rows} (pivot : IsPivot w c r (rows_in old)) (stored : AreStored limit w old) (g : IsPlacedAt w c r a most old new) where
+  pub is_placed : IsPlaced limit w a (row_at (rows_in new) r)
+  is_placed = placed limit w c r a (rows_in old) (row_at (rows_in new) r) pivot stored.lines g.denominator g.line
 
   leaving : IsLine limit w (cut (line_in w (row_at (rows_in old) r)))
   leaving = cut_within limit w (line_in w (row_at (rows_in old) r)) (stored.lines r pivot.row)
@@ -52,13 +46,13 @@ module _ (limit w c r a most : ℕ) (old new : Rows) (column : c < w) (pivot : I
   row_inside : r < length new.short.rows
   row_inside = let count = g.written.count.count in let low = pivot.row in omega (arith, low, count, rows_many old)
 
-  sizes_low : AreSizes most (line_in w (row_at (rows_in new) r)).numbers
+  pub sizes_low : AreSizes most (line_in w (row_at (rows_in new) r)).numbers
   sizes_low j = let low = own.sizes j in let size = g.size in omega (arith, low, size)
 
   a_low : a ≤ most
   a_low = let low = over_a in let size = g.size in omega (arith, low, size)
 
-  placed_stored : AreStored limit w new
+  pub placed_stored : AreStored limit w new
   placed_stored = stored_after limit w r old new stored g.written is_placed.line
 
   -- the short row that is read has the numbers or their signs
@@ -72,34 +66,37 @@ module _ (limit w c r a most : ℕ) (old new : Rows) (column : c < w) (pivot : I
           let signs = subst (λ (z : List ℤ). HasSigns w p z) (sym standing) (subst (λ (z : List ℤ). HasSigns w z (row_at new.wide.rows r)) (sym is) (g.written.stored.signs e)) in
           line_by_signs w p (row_at (rows_in new) r) signs (length-take-le w (drop 1 p) (omega (arith, wide, length-drop 1 p))) is_placed.line.count
 
-  placed_known : (listed : List ℕ) (p : List ℤ) → w < length p → p ≡ row_at new.short.rows r → listed ≡ nonzero_in (line_in w p).numbers → IsKnown a most listed r w new
-  placed_known listed p wide is places =
-      record {
-        row = row_inside;
-        above = is_placed.above;
-        below = a_low;
-        sizes = sizes_low;
-        places = places ∙ places_read p wide is;
-        short = λ e. (let low = over_a in let size = (g.written.stored.short e).0 in omega (arith, low, size), g.short e);
-      }
+  pub leaving_size : line_size (cut (line_in w (row_at (rows_in old) r))) ≤ most
+  leaving_size = placed_size limit w c a most (cut (line_in w (row_at (rows_in old) r))) (row_at (rows_in new) r) leaving pivot.column g.denominator g.line sizes_low a_low
 
-  leaving_size : line_size (cut (line_in w (row_at (rows_in old) r))) ≤ most
-  leaving_size = placed_size limit w c a most (cut (line_in w (row_at (rows_in old) r))) (row_at (rows_in new) r) leaving column g.denominator g.line sizes_low a_low
-
-  placed_column : nonzero_in (column_in c (rows_in new)) ≡ nonzero_in (column_in c (rows_in old))
+  pub placed_column : nonzero_in (column_in c (rows_in new)) ≡ nonzero_in (column_in c (rows_in old))
   placed_column =
       ap (λ (s : List (List ℤ)). nonzero_in (column_in c s)) g.written.row
-      ∙ listed_still w c r a (rows_in old) (row_at (rows_in new) r) (cut (line_in w (row_at (rows_in old) r))) column pivot g.line leaving.positive leaving.count
+      ∙ listed_still w c r a (rows_in old) (row_at (rows_in new) r) (cut (line_in w (row_at (rows_in old) r))) pivot g.line leaving.positive leaving.count
+
+  -- what a pivot makes of a line, by the line that leaves
+  pub pivoted_line : (l m : Line) → IsEliminated limit c a most (line_in w (row_at (rows_in new) r)).numbers l m
+      → IsEliminated limit c (unsigned_abs (number_at (cut (line_in w (row_at (rows_in old) r))).numbers c)) (line_size (cut (line_in w (row_at (rows_in old) r)))) (turned_in c (cut (line_in w (row_at (rows_in old) r)))) l m
+  pivoted_line l m e =
+      let leaves = line_size (cut (line_in w (row_at (rows_in old) r))) in
+      subst (λ (q : ℕ). IsEliminated limit c q leaves (turned_in c (cut (line_in w (row_at (rows_in old) r)))) l m) g.denominator
+      (subst (λ (k : Line). IsEliminated limit c a leaves k.numbers l m) g.line (eliminated_by_less limit c a leaves most _ l m leaving_size e))
 
 -- the places are those of the short row, which is read
-pub ready : {limit w c r a most : ℕ} {listed : List ℕ} {old new : Rows} (p : List ℤ) → AreStored limit w old → IsPlacedAt w c r a most old new → IsPivot w c r (rows_in old) → c < w → w < old.short.width
-    → length p ≡ new.short.width → p ≡ row_at new.short.rows r → listed ≡ nonzero_in (line_in w p).numbers → IsReady limit w c r a most listed old new
-ready {limit} {w} {c} {r} {a} {most} {listed} {old} {new} p stored g pivot column room long is places =
-    let count = g.written.count.width in
+pub placed_known : {k : Known} {w : ℕ} {old new : Rows} (p : List ℤ) → IsPivot w k.step.c k.step.r (rows_in old) → AreStored k.step.limit w old → IsPlacedAt w k.step.c k.step.r k.a k.most old new → (widest ≤ k.step.limit) × (k.step.limit ≤ 2 ^ 127 - 1)
+    → w < length p → p ≡ row_at new.short.rows k.step.r → k.places.now ≡ nonzero_in (line_in w p).numbers → IsKnown k w new
+placed_known {k} {w} {old} {new} p pivot stored g limit wide is places =
+    let placed = is_placed pivot stored g in
     record {
-      known = placed_known limit w c r a most old new column pivot stored g listed p (omega (arith, long, count, room)) is places;
-      below = (is_placed limit w c r a most old new column pivot stored g).below;
-      stored = placed_stored limit w c r a most old new column pivot stored g;
-      leaving = leaving_size limit w c r a most old new column pivot stored g;
-      column = placed_column limit w c r a most old new column pivot stored g;
+      row = row_inside pivot stored g;
+      line = record {
+        column = pivot.column;
+        count = placed.line.count;
+        above = placed.above;
+        below = placed.below;
+        limit = limit;
+        sizes = sizes_low pivot stored g;
+        places = places ∙ places_read pivot stored g p wide is;
+      };
+      short = λ e. record { own = (let low = over_a pivot stored g in let size = (g.written.stored.short e).0 in omega (arith, low, size)); most = g.short e };
     }

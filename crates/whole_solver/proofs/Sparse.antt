@@ -11,7 +11,7 @@ use Rattle.compact_table.specs.Nonzero.{is_zero, nonzero_from}
 use Rattle.equal_runs.specs.Lines.{number_at}
 use Rattle.equal_runs.specs.WholeTurning.{cross_difference}
 use Rattle.equal_runs.proofs.LineSteps.{zero_of_size}
-use Rattle.whole_solver.proofs.Cleared.{zero_from_test}
+use Rattle.whole_solver.proofs.Eliminating.{zero_from_test}
 use Rattle.compact_table.proofs.Nonzero.{passes_zero, takes_nonzero}
 use Rattle.whole_solver.specs.Rows.{nonzero_in, with_place}
 

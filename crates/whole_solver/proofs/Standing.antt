@@ -1,9 +1,11 @@
 -- A row where it stands, by its flag.
-use Rattle.std.proofs.Common.{◌≡◌, ℕ, ◌^◌, ◌<◌, ◌≤◌, List, length, map, slice_index_or, sym, ◌∙◌, ap, subst, arith, Bool, true, false, ℤ}
+use Rattle.std.proofs.Common.{◌≡◌, ℕ, ◌^◌, ◌<◌, ◌≤◌, List, length, map, slice_index_or, sym, ◌∙◌, subst, arith, Bool, true, false, ℤ}
 use Rattle.std.proofs.lemmas.List.{get_or_default, map-id}
-use Rattle.equal_runs.specs.Lines.{AreSizes, line_size, widest}
-use Rattle.whole_solver.specs.Rows.{AreLinesIn, line_in, nonzero_in, row_at}
+use Rattle.equal_runs.specs.Lines.{line_size, widest}
+use Rattle.whole_solver.specs.Eliminating.{IsPivotRow}
+use Rattle.whole_solver.specs.Rows.{AreLinesIn, line_in, row_at}
 use Rattle.whole_solver.specs.Stored.{AreStored, HasSigns, IsKnown, IsStored, is_wide_at, rows_in, size_at}
+use Rattle.whole_solver.specs.declared.mix.Known.{Known}
 use Rattle.whole_solver.specs.declared.rows.Rows.{Rows}
 use Rattle.whole_solver.proofs.Stored.{row_short, row_wide, rows_count}
 
@@ -16,6 +18,13 @@ row_standing_wide r i low flag = row_wide r.is_wide.items r.short.rows r.wide.ro
 -- what indexing the flags tells
 pub flag_there : (r : Rows) (i : ℕ) (b v : Bool) → i < length r.short.rows → b ≡ slice_index_or r.is_wide.items i b → b ≡ v → is_wide_at r i ≡ v
 flag_there r i b v low e is = get_or_default r.is_wide.items i false b (omega (arith, low, r.is_wide_count, r.is_wide.ok)) ∙ sym e ∙ is
+
+-- the row where it is read
+pub read_short : (r : Rows) (i : ℕ) (b : Bool) (z : List ℤ) → i < length r.short.rows → b ≡ slice_index_or r.is_wide.items i b → b ≡ false → z ≡ row_at r.short.rows i → row_at (rows_in r) i ≡ z
+read_short r i b z low e is there = row_standing_short r i (flag_there r i b false low e is) ∙ sym there
+
+pub read_wide : (r : Rows) (i : ℕ) (b : Bool) (z : List ℤ) → i < length r.short.rows → b ≡ slice_index_or r.is_wide.items i b → b ≡ true → z ≡ row_at r.wide.rows i → row_at (rows_in r) i ≡ z
+read_wide r i b z low e is there = row_standing_wide r i low (flag_there r i b true low e is) ∙ sym there
 
 pub rows_many : (r : Rows) → length (rows_in r) ≡ length r.short.rows
 rows_many r = rows_count r.is_wide.items r.short.rows r.wide.rows
@@ -48,9 +57,5 @@ all_stored limit w old new same count g s =
     }
 
 -- the pivot row as words
-pub known_words : (w a most : ℕ) (listed : List ℕ) (r : ℕ) (t : Rows) (p : List ℤ) → IsKnown a most listed r w t → row_at (rows_in t) r ≡ p → AreSizes most (line_in w (map (λ (z : ℤ). z) p)).numbers × (listed ≡ nonzero_in (line_in w (map (λ (z : ℤ). z) p)).numbers)
-known_words w a most listed r t p k e =
-    let is = e ∙ sym (map-id p) in (
-      subst (λ (z : List ℤ). AreSizes most (line_in w z).numbers) is k.sizes,
-      k.places ∙ ap (λ (z : List ℤ). nonzero_in (line_in w z).numbers) is,
-    )
+pub pivot_words : (k : Known) (w : ℕ) (t : Rows) (p : List ℤ) → IsKnown k w t → row_at (rows_in t) k.step.r ≡ p → IsPivotRow k w (line_in w (map (λ (z : ℤ). z) p)).numbers
+pivot_words k w t p g e = subst (λ (z : List ℤ). IsPivotRow k w (line_in w z).numbers) (e ∙ sym (map-id p)) g.line

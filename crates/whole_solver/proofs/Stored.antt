@@ -4,6 +4,7 @@ use Rattle.std.specs.Prelude.{int_lt, if◌then◌else◌}
 use Rattle.std.proofs.lemmas.Int.{ints}
 use Rattle.std.specs.Int.{int_signum}
 use Rattle.std.proofs.lemmas.Bool.{lt-ltb, ne_eqb}
+use Rattle.std.proofs.lemmas.List.{set-get_or}
 use Rattle.exact_num.specs.Fraction.{whole}
 use Rattle.compact_table.specs.Nonzero.{nonzero_from}
 use Rattle.equal_runs.specs.Lines.{number_at}
@@ -86,6 +87,15 @@ pub set_again : {A : Type 0} (xs : List A) (i : ℕ) (y d : A) → set xs i y �
 set_again [] i y d = refl
 set_again (x ∷ xs) zero y d = refl
 set_again (x ∷ xs) (suc i) y d = ap (λ ys. x ∷ ys) (set_again xs i y d)
+
+-- at most place i is written
+pub data IsSet (A : Type 0) (i : ℕ) (old new : List A) : Type 0 where
+  stays : new ≡ old → IsSet A i old new
+  put : (y : A) → new ≡ set old i y → IsSet A i old new
+
+pub set_is : {A : Type 0} (i : ℕ) (old new : List A) (d : A) → IsSet A i old new → new ≡ set old i (get_or new i d)
+set_is {A} i old new d (stays e) = e ∙ sym (set-get_or old i d) ∙ ap (λ (xs : List A). set old i (get_or xs i d)) (sym e)
+set_is {A} i old new d (put y e) = e ∙ set_again old i y d ∙ ap (λ (xs : List A). set old i (get_or xs i d)) (sym e)
 
 -- where there is no flag or no room every row is short
 rows_plain : (new old short : List (List ℤ)) (i : ℕ) (ys : List ℤ) → new ≡ set short i ys → old ≡ short → new ≡ set old i (row_at new i)

@@ -1,22 +1,22 @@
 -- One row of both widths written, and what stands then.
-use Rattle.std.proofs.Common.{◌≡◌, ℕ, zero, suc, ◌+◌, ◌<◌, ◌≤◌, List, [], ◌∷◌, length, set, refl, sym, ◌∙◌, ap, subst, arith, Bool, true, false, ℤ, pos, unsigned_abs}
+use Rattle.std.proofs.Common.{◌≡◌, ℕ, zero, suc, ◌+◌, ◌<◌, ◌≤◌, List, [], ◌∷◌, length, set, refl, sym, ◌∙◌, ap, subst, arith, Bool, true, false, ℤ, pos}
 use Rattle.std.specs.Prelude.{nat_le}
-use Rattle.std.proofs.lemmas.Bool.{le-leb, leb-true, leb-false}
+use Rattle.std.proofs.lemmas.Bool.{leb-true, leb-false}
 use Rattle.std.proofs.lemmas.List.{length-map, set-set}
 use Rattle.std.proofs.Math.Decide.{ℕ_discrete}
 use Rattle.std.specs.Int.{int_signum}
 use Rattle.compact_table.proofs.ArenaSteps.{at_set_other}
-use Rattle.equal_runs.specs.Lines.{Line, AreSizes, IsLine, line_size, number_at}
-use Rattle.equal_runs.specs.WholeTurning.{line_cleared, step_size}
-use Rattle.equal_runs.proofs.LineSteps.{sizes_bound, cleared_lines_fit}
-use Rattle.whole_solver.specs.Rows.{AreLinesIn, AreStepsBelow, AreStepsWithin, column_in, line_in, nonzero_in, row_at}
-use Rattle.whole_solver.specs.Stored.{AreStored, IsKnown, IsStored, IsWrittenAt, SameCounts, is_wide_at, rows_in}
+use Rattle.equal_runs.specs.Lines.{IsLine, number_at}
+use Rattle.whole_solver.specs.Rows.{AreLinesIn, column_in, line_in, nonzero_in, row_at}
+use Rattle.whole_solver.specs.Eliminating.{IsEliminatedBy, IsPivotRow}
+use Rattle.whole_solver.specs.Stored.{AreStored, IsKnown, IsRowEliminated, IsStored, IsWrittenAt, SameCounts, is_wide_at, rows_in}
+use Rattle.whole_solver.specs.declared.mix.Known.{Known}
 use Rattle.whole_solver.specs.declared.rows.Rows.{Rows}
 use Rattle.whole_solver.proofs.Choosing.{in_line}
-use Rattle.whole_solver.proofs.Cleared.{steps_of_none}
+use Rattle.whole_solver.proofs.Eliminating.{eliminated_at, eliminated_none, left_within}
 use Rattle.whole_solver.proofs.Listed.{IsGap, column_number}
 use Rattle.whole_solver.proofs.Stored.{nonzero_by_signs, row_short, row_wide, rows_count}
-use Rattle.whole_solver.proofs.Turned.{AreCleared, lines_set, size_below, steps_less}
+use Rattle.whole_solver.proofs.Turned.{lines_set, size_below}
 
 -- ---- the other rows are as they were
 pub other_row : (w i j : ℕ) (old new : Rows) → IsWrittenAt w i old new → (i ≡ j → ⊥) → row_at (rows_in new) j ≡ row_at (rows_in old) j
@@ -51,35 +51,15 @@ stored_after limit w i old new s g line =
     ]
 
 -- the pivot row is as it was where another is written
-pub known_after : (a most : ℕ) (places : List ℕ) (r w i : ℕ) (old new : Rows) → IsKnown a most places r w old → IsWrittenAt w i old new → (i ≡ r → ⊥) → IsKnown a most places r w new
-known_after a most places r w i old new k g apart =
-    let same = other_row w i r old new g apart in
-    let flag = g.flags r (λ e. apart (sym e)) in
+pub known_after : (k : Known) (w i : ℕ) (old new : Rows) → IsKnown k w old → IsWrittenAt w i old new → (i ≡ k.step.r → ⊥) → IsKnown k w new
+known_after k w i old new g h apart =
+    let same = other_row w i k.step.r old new h apart in
+    let flag = h.flags k.step.r (λ e. apart (sym e)) in
     record {
-      row = (let low = k.row in let count = g.count.count in omega (arith, low, count));
-      above = k.above;
-      below = k.below;
-      sizes = subst (λ (z : List ℤ). AreSizes most (line_in w z).numbers) (sym same) k.sizes;
-      places = k.places ∙ ap (λ (z : List ℤ). nonzero_in (line_in w z).numbers) (sym same);
-      short = λ is. k.short (sym flag ∙ is);
+      row = (let low = g.row in let count = h.count.count in omega (arith, low, count));
+      line = subst (λ (z : List ℤ). IsPivotRow k w (line_in w z).numbers) (sym same) g.line;
+      short = λ is. g.short (sym flag ∙ is);
     }
-
--- ---- the steps of the rows by the pivot row are those by the line that leaves, which is no greater
-pub steps_within_of_below : (limit c a most r w : ℕ) (pivot : Line) (y : List ℤ) (rows : List (List ℤ)) → a ≡ unsigned_abs (number_at pivot.numbers c) → line_size pivot ≤ most → AreStepsBelow limit c a most r w (set rows r y) → AreStepsWithin limit c r pivot w rows
-steps_within_of_below limit c a most r w pivot y rows is_a small g i low apart =
-    let l = line_in w (row_at rows i) in
-    let x = unsigned_abs (number_at l.numbers c) in
-    let same = at_set_other rows r i y [] apart in
-    let count = set_count rows r y in
-    let below : step_size (line_size l) x a most ≤ limit = subst (λ (z : List ℤ). step_size (line_size (line_in w z)) (unsigned_abs (number_at (line_in w z).numbers c)) a most ≤ limit) same (g i (omega (arith, low, count)) apart) in
-    let less = steps_less (line_size l) x a (line_size pivot) most small in
-    let within : step_size (line_size l) x a (line_size pivot) ≤ limit = omega (arith, less, below) in
-    le-leb _ limit (subst (λ (k : ℕ). step_size (line_size l) x k (line_size pivot) ≤ limit) is_a within)
-  where
-    set_count : (rows : List (List ℤ)) (r : ℕ) (y : List ℤ) → length (set rows r y) ≡ length rows
-    set_count [] r y = refl
-    set_count (x ∷ rows) zero y = refl
-    set_count (x ∷ rows) (suc r) y = ap suc (set_count rows r y)
 
 -- ---- the signs of a column tell where it is not 0
 pub sign_there : (w c i : ℕ) (r : Rows) → c < w → i < length r.short.rows → i < length r.wide.rows → IsStored w r i → int_signum (number_at (row_at r.short.rows i) (c + 1)) ≡ int_signum (number_at (row_at (rows_in r) i) (c + 1))
@@ -116,40 +96,70 @@ column_by_signs w c r column room s =
             let many = rows_count r.is_wide.items r.short.rows r.wide.rows in
             ap int_signum (column_number c r.short.rows i ∙ past_rows r.short.rows i c high ∙ sym (past_rows (rows_in r) i c (omega (arith, high, many))) ∙ sym (column_number c (rows_in r) i))
 
--- ---- the steps of the rows before i
-abbrev pub AreStepsBefore : ℕ → ℕ → ℕ → ℕ → ℕ → ℕ → ℕ → List (List ℤ) → Type 0
-AreStepsBefore limit c a most r w i rows = (j : ℕ) → j < i → (j ≡ r → ⊥) → step_size (line_size (line_in w (row_at rows j))) (unsigned_abs (number_at (line_in w (row_at rows j)).numbers c)) a most ≤ limit
-
--- those of a row that is cleared, and of rows with 0 in the column
-pub steps_more : (limit c a most r w i : ℕ) (rows : List (List ℤ)) → AreStepsBefore limit c a most r w i rows → step_size (line_size (line_in w (row_at rows i))) (unsigned_abs (number_at (line_in w (row_at rows i)).numbers c)) a most ≤ limit → AreStepsBefore limit c a most r w (i + 1) rows
-steps_more limit c a most r w i rows g here j low apart = elim (ℕ_discrete j i) [
-  | yes e ↦ subst (λ (k : ℕ). step_size (line_size (line_in w (row_at rows k))) (unsigned_abs (number_at (line_in w (row_at rows k)).numbers c)) a most ≤ limit) (sym e) here
-  | no other ↦ g j (omega (arith, low, other)) apart
-]
-
-pub steps_passed : (limit c a most r w i k : ℕ) (rows : List (List ℤ)) → c < w → 0 < a → AreLinesIn limit w rows → IsGap c i k rows → AreStepsBefore limit c a most r w i rows → AreStepsBefore limit c a most r w k rows
-steps_passed limit c a most r w i k rows column above lines gap g j low apart = step (nat_le i j) refl
-  where
-    step : (b : Bool) → nat_le i j ≡ b → step_size (line_size (line_in w (row_at rows j))) (unsigned_abs (number_at (line_in w (row_at rows j)).numbers c)) a most ≤ limit
-    step false e = g j (leb-false _ _ e) apart
-    step true e =
-        let high = gap.high in
-        let zero = in_line w (row_at rows j) c column ∙ gap.zero j (leb-true _ _ e) low in
-        let size = size_below limit w (line_in w (row_at rows j)) (lines j (omega (arith, low, high))) in
-        steps_of_none (line_size (line_in w (row_at rows j))) a most limit (number_at (line_in w (row_at rows j)).numbers c) zero above size
-
--- a line whose steps are within the limit is so when it is cleared
-pub cleared_within : (limit most w c a : ℕ) (pivot : List ℤ) (l : Line) → IsLine limit w l → AreSizes most pivot → length pivot ≡ w → 0 < a → step_size (line_size l) (unsigned_abs (number_at l.numbers c)) a most ≤ limit → IsLine limit w (line_cleared c a pivot l)
-cleared_within limit most w c a pivot l g sizes count above room =
-    cleared_lines_fit (line_size l) most limit w c a pivot l room (sizes_bound w l (record { positive = g.positive; count = g.count })) sizes count above
-
--- ---- the loop over the rows: those before i are cleared, each step of theirs within the limit, and the rest are as they were.
--- The room has m places
-pub record Kept (n a most : ℕ) (listed : List ℕ) (r c limit i m : ℕ) (old new : Rows) : Type 0 where
+-- ---- the pivot's column is eliminated from the rows before i but the pivot row, and the rest are as they were
+pub record AreDone (k : Known) (w i : ℕ) (old new : Rows) : Type 0 where
   pub count : SameCounts old new
-  pub places : m ≡ n
-  pub pivot : row_at (rows_in new) r ≡ row_at (rows_in old) r
-  pub known : IsKnown a most listed r n new
-  pub stored : AreStored limit n new
-  pub fits : AreStepsBefore limit c a most r n i (rows_in old)
-  pub done : AreCleared n c a r i (line_in n (row_at (rows_in old) r)).numbers (rows_in old) (rows_in new)
+  pub pivot : row_at (rows_in new) k.step.r ≡ row_at (rows_in old) k.step.r
+  pub known : IsKnown k w new
+  pub stored : AreStored k.step.limit w new
+  pub left : (j : ℕ) → i ≤ j → row_at (rows_in new) j ≡ row_at (rows_in old) j
+  pub done : (j : ℕ) → j < i → (j ≡ k.step.r → ⊥) → IsEliminatedBy k (line_in w (row_at (rows_in old) k.step.r)).numbers (line_in w (row_at (rows_in old) j)) (line_in w (row_at (rows_in new) j))
+
+pub none_done : (k : Known) (w : ℕ) (old : Rows) → IsKnown k w old → AreStored k.step.limit w old → AreDone k w 0 old old
+none_done k w old known stored =
+    record { count = record { count = refl; spare = refl; width = refl }; pivot = refl; known = known; stored = stored; left = λ j p. refl; done = λ j p apart. absurd (omega (arith, p)) }
+
+-- rows with 0 in the column stay
+pub done_passed : (k : Known) (w i n : ℕ) (old new : Rows) → AreStored k.step.limit w old → IsGap k.step.c i n (rows_in old) → AreDone k w i old new → AreDone k w n old new
+done_passed k w i n old new stored gap g =
+    record { count = g.count; pivot = g.pivot; known = g.known; stored = g.stored; left = λ j p. g.left j (let low = gap.low in omega (arith, low, p)); done = λ j p apart. step j p apart (nat_le i j) refl }
+  where
+    P : List ℤ
+    P = (line_in w (row_at (rows_in old) k.step.r)).numbers
+
+    step : (j : ℕ) → j < n → (j ≡ k.step.r → ⊥) → (b : Bool) → nat_le i j ≡ b
+        → IsEliminatedBy k (line_in w (row_at (rows_in old) k.step.r)).numbers (line_in w (row_at (rows_in old) j)) (line_in w (row_at (rows_in new) j))
+    step j p apart false e = g.done j (leb-false _ _ e) apart
+    step j p apart true e =
+        let high = gap.high in
+        let from = leb-true _ _ e in
+        let l = line_in w (row_at (rows_in old) j) in
+        let zero = in_line w (row_at (rows_in old) j) k.step.c g.known.line.column ∙ gap.zero j from p in
+        let size = size_below k.step.limit w l (stored.lines j (omega (arith, p, high))) in
+        subst (λ (z : List ℤ). IsEliminatedBy k (line_in w (row_at (rows_in old) k.step.r)).numbers (line_in w (row_at (rows_in old) j)) (line_in w z)) (sym (g.left j from))
+        (eliminated_none k.step.limit k.step.c k.a k.most (line_in w (row_at (rows_in old) k.step.r)).numbers l zero g.known.line.above size)
+
+-- the pivot row stays
+pub done_pivot : (k : Known) (w i : ℕ) (old new : Rows) → i ≡ k.step.r → AreDone k w i old new → AreDone k w (i + 1) old new
+done_pivot k w i old new is g =
+    record {
+      count = g.count;
+      pivot = g.pivot;
+      known = g.known;
+      stored = g.stored;
+      left = λ j p. g.left j (omega (arith, p));
+      done = λ j p apart. g.done j (let other : j ≡ i → ⊥ = λ e. apart (e ∙ is) in omega (arith, p, other)) apart;
+    }
+
+-- any other goes on
+pub done_more : (k : Known) (w i : ℕ) (old mid new : Rows) → i < length mid.short.rows → (i ≡ k.step.r → ⊥) → AreDone k w i old mid → IsRowEliminated k w i mid new → AreDone k w (i + 1) old new
+done_more k w i old mid new low apart g e =
+    record {
+      count = counts_then old mid new g.count e.written.count;
+      pivot = other_row w i k.step.r mid new e.written apart ∙ g.pivot;
+      known = known_after k w i mid new g.known e.written apart;
+      stored = stored_after k.step.limit w i mid new g.stored e.written (left_within k w _ _ _ g.known.line (g.stored.lines i (omega (arith, low, many))) e.eliminated);
+      left = λ j p. other_row w i j mid new e.written (λ q. omega (arith, p, q)) ∙ g.left j (omega (arith, p));
+      done = λ j p other. elim (ℕ_discrete j i) [
+        | yes q ↦ subst (λ (m : ℕ). IsEliminatedBy k (line_in w (row_at (rows_in old) k.step.r)).numbers (line_in w (row_at (rows_in old) m)) (line_in w (row_at (rows_in new) m))) (sym q) here
+        | no ne ↦
+            subst (λ (z : List ℤ). IsEliminatedBy k (line_in w (row_at (rows_in old) k.step.r)).numbers (line_in w (row_at (rows_in old) j)) (line_in w z))
+            (sym (other_row w i j mid new e.written (λ q. ne (sym q)))) (g.done j (omega (arith, p, ne)) other)
+      ];
+    }
+  where
+    many : length (rows_in mid) ≡ length mid.short.rows
+    many = rows_count mid.is_wide.items mid.short.rows mid.wide.rows
+
+    here : IsEliminatedBy k (line_in w (row_at (rows_in old) k.step.r)).numbers (line_in w (row_at (rows_in old) i)) (line_in w (row_at (rows_in new) i))
+    here = eliminated_at k w _ _ _ _ _ _ g.pivot (ap (line_in w) (g.left i (omega arith))) refl e.eliminated

@@ -1,10 +1,13 @@
 -- Rows of both widths as they are stored, and the rows that they are.
-use Rattle.std.specs.Prelude.{◌≡◌, ℕ, ◌<◌, ◌≤◌, ◌^◌, List, [], ◌∷◌, ℤ, length, slice_index_or, slice_set, unsigned_abs, if◌then◌else◌, Bool, true, false}
+use Rattle.std.specs.Prelude.{◌≡◌, ℕ, ◌<◌, ◌≤◌, ◌^◌, ◌-◌, List, [], ◌∷◌, ℤ, length, slice_index_or, slice_set, unsigned_abs, if◌then◌else◌, Bool, true, false}
 use Rattle.std.specs.Int.{int_signum}
-use Rattle.equal_runs.specs.Lines.{AreSizes, line_size, number_at, widest}
-use Rattle.equal_runs.specs.WholeTurning.{line_cleared, cut, step_size}
-use Rattle.whole_solver.specs.Rows.{AreLinesIn, line_in, nonzero_in, pivot_line, row_at}
+use Rattle.equal_runs.specs.Lines.{line_size, number_at, widest}
+use Rattle.equal_runs.specs.WholeTurning.{cut}
+use Rattle.whole_solver.specs.Eliminating.{IsEliminatedBy, IsKept, IsPivotRow, IsShortPivot}
+use Rattle.whole_solver.specs.Rows.{AreEliminated, AreLinesIn, IsPivot, IsPivoted, column_in, line_in, nonzero_in, pivot_line, row_at}
 use Rattle.whole_solver.specs.declared.mix.Known.{Known}
+use Rattle.whole_solver.specs.declared.mix.Step.{Step}
+use Rattle.whole_solver.specs.declared.objective.Objective.{Objective}
 use Rattle.whole_solver.specs.declared.rows.Rows.{Rows}
 
 -- of each row the wide one where it is wide, and else the short one
@@ -39,19 +42,24 @@ pub record AreStored (limit w : ℕ) (r : Rows) : Type 0 where
   pub lines : AreLinesIn limit w (rows_in r)
   pub rows : (i : ℕ) → i < length r.short.rows → IsStored w r i
 
--- row r is the pivot row: a stands in the column, its numbers are at most `most`, and these are the
--- places where they are not 0
-pub record IsKnown (a most : ℕ) (listed : List ℕ) (r w : ℕ) (rows : Rows) : Type 0 where
-  pub row : r < length rows.short.rows
-  pub above : 0 < a
-  pub below : a ≤ most
-  pub sizes : AreSizes most (line_in w (row_at (rows_in rows) r)).numbers
-  pub places : listed ≡ nonzero_in (line_in w (row_at (rows_in rows) r)).numbers
-  pub short : is_wide_at rows r ≡ false → (a ≤ widest) × (most < 2 ^ 64)
+-- row r is a pivot row of which this is known
+pub record IsKnown (k : Known) (w : ℕ) (rows : Rows) : Type 0 where
+  pub row : k.step.r < length rows.short.rows
+  pub line : IsPivotRow k w (line_in w (row_at (rows_in rows) k.step.r)).numbers
+  pub short : is_wide_at rows k.step.r ≡ false → IsShortPivot k
 
 -- as many rows, and room for as many more
 pub record SameCounts (old new : Rows) : Type 0 where
   pub count : length new.short.rows ≡ length old.short.rows
+  pub spare : new.short.spare ≡ old.short.spare
+  pub width : new.short.width ≡ old.short.width
+
+-- of all arenas and lists row i alone changes
+pub record IsChangedAt (i : ℕ) (old new : Rows) : Type 0 where
+  pub flags : new.is_wide.items ≡ slice_set old.is_wide.items i (is_wide_at new i)
+  pub sizes : new.sizes.items ≡ slice_set old.sizes.items i (size_at new i)
+  pub short : new.short.rows ≡ slice_set old.short.rows i (row_at new.short.rows i)
+  pub wide : new.wide.rows ≡ slice_set old.wide.rows i (row_at new.wide.rows i)
   pub spare : new.short.spare ≡ old.short.spare
   pub width : new.short.width ≡ old.short.width
 
@@ -71,12 +79,29 @@ pub record IsPlacedAt (w c r a most : ℕ) (old new : Rows) : Type 0 where
   pub short : is_wide_at new r ≡ false → most < 2 ^ 64
   pub written : IsWrittenAt w r old new
 
--- row i is cleared by the pivot row of which this is known, each step within the limit
-pub record IsRowCleared (k : Known) (w i : ℕ) (old new : Rows) : Type 0 where
-  pub fits :
-      let l = line_in w (row_at (rows_in old) i) in
-      step_size (line_size l) (unsigned_abs (number_at l.numbers k.step.c)) k.a k.most ≤ k.step.limit
-  pub cleared :
-      let pivot = (line_in w (row_at (rows_in old) k.step.r)).numbers in
-      line_in w (row_at (rows_in new) i) ≡ line_cleared k.step.c k.a pivot (line_in w (row_at (rows_in old) i))
+-- the pivot's column is eliminated from row i
+pub record IsRowEliminated (k : Known) (w i : ℕ) (old new : Rows) : Type 0 where
+  pub eliminated : IsEliminatedBy k (line_in w (row_at (rows_in old) k.step.r)).numbers (line_in w (row_at (rows_in old) i)) (line_in w (row_at (rows_in new) i))
   pub written : IsWrittenAt w i old new
+
+-- and from each row but the pivot row, which stays
+pub record AreRowsEliminated (k : Known) (w : ℕ) (old new : Rows) : Type 0 where
+  pub rows : AreEliminated k.step.limit w k.step.c k.step.r k.a k.most (line_in w (row_at (rows_in old) k.step.r)).numbers (rows_in old) (rows_in new)
+  pub pivot : row_at (rows_in new) k.step.r ≡ row_at (rows_in old) k.step.r
+  pub stored : AreStored k.step.limit w new
+
+-- ---- a pivot of the rows and the objective row
+pub record AreKept (limit w : ℕ) (r : Rows) (o : Objective) : Type 0 where
+  pub rows : AreStored limit w r
+  pub objective : IsKept limit w o.size (line_in w o.numbers.items)
+
+-- the column enters in row r, its rows that are not 0 are listed, and all are within the limit
+pub record IsStep (s : Step) (w : ℕ) (r : Rows) (o : Objective) : Type 0 where
+  pub limit : (widest ≤ s.limit) × (s.limit ≤ 2 ^ 127 - 1)
+  pub pivot : IsPivot w s.c s.r (rows_in r)
+  pub places : s.column_places.now ≡ nonzero_in (column_in s.c (rows_in r))
+  pub kept : AreKept s.limit w r o
+
+abbrev pub IsStepMade : Step → ℕ → Rows → Objective → Rows → Objective → Type 0
+IsStepMade s w rows objective new last =
+    IsPivoted s.limit w s.c s.r (cut (line_in w (row_at (rows_in rows) s.r))) (rows_in rows) objective.numbers.items (rows_in new) last.numbers.items

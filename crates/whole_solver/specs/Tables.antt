@@ -1,7 +1,7 @@
 -- What the table of the code stands for.
 use Rattle.std.specs.Prelude.{◌≡◌, ℕ, ◌+◌, ◌≤◌, List, [], ◌∷◌, ◌++◌, ℤ, pos, neg_ℤ, length, take, if◌then◌else◌, nat_eq, true, Some, None}
 use Rattle.exact_num.specs.Fraction.{Fraction, whole, reduced}
-use Rattle.equal_runs.specs.Lines.{IsLine, line_size, number_at, taken_in, widest, LineTable}
+use Rattle.equal_runs.specs.Lines.{IsLine, number_at, taken_in, widest, LineTable}
 use Rattle.equal_runs.specs.WholeRunning.{whole_where_basic}
 use Rattle.table_run.specs.Choice.{Column}
 use Rattle.equal_runs.specs.WholeTurning.{whole_turn, turn_fits}
@@ -9,7 +9,7 @@ use Rattle.whole_solver.specs.declared.table.WholeTable.{WholeTable}
 use Rattle.whole_solver.specs.declared.turn.Turn.{Turn}
 use Rattle.whole_solver.specs.declared.turn.Turn.TheVariants.{Moved, Unlimited, GivenUp}
 use Rattle.whole_solver.specs.Rows.{line_in, lines_in, beside_basics, column_in, nonzero_in}
-use Rattle.whole_solver.specs.Stored.{AreStored, rows_in}
+use Rattle.whole_solver.specs.Stored.{AreKept, rows_in}
 
 -- as many numbers a line as there are columns, and the right side
 abbrev pub width_of : WholeTable → ℕ
@@ -29,10 +29,8 @@ as_whole t = table_of t.labels.items t.basics.items (rows_in t.rows) t.objective
 
 -- each row and the objective row are within the limit, and each is at most the size that is kept
 -- with it
-pub record IsWithin (limit : ℕ) (t : WholeTable) : Type 0 where
-  pub rows : AreStored limit (width_of t) t.rows
-  pub objective : IsLine limit (width_of t) (line_in (width_of t) t.objective.numbers.items)
-  pub size : line_size (line_in (width_of t) t.objective.numbers.items) ≤ t.objective.size
+abbrev pub IsWithin : ℕ → WholeTable → Type 0
+IsWithin limit t = AreKept limit (width_of t) t.rows t.objective
 
 -- ---- room
 abbrev pub room_of : WholeTable → ℕ

@@ -1,16 +1,16 @@
 //! The line at the front of a row: the denominator, and then so many numbers, the right side last.
 ghost use Rattle.std.specs.Prelude.{◌≡◌, ◌+◌, ◌-◌, ◌*◌, ◌^◌, ◌<◌, ◌≤◌, length, map, pos, true, unsigned_abs, slice_set, take};
 ghost use Rattle.std.specs.Int.{int_signum};
-ghost use Rattle.equal_runs.specs.Lines.{AreSizes, IsLine, line_of, line_size, number_at, numbers_fit, widest};
-ghost use Rattle.equal_runs.specs.WholeTurning.{line_cleared, cut, step_size};
-ghost use Rattle.whole_solver.specs.Clearing.{IfCleared, IsFrontCleared};
+ghost use Rattle.equal_runs.specs.Lines.{IsLine, line_of, line_size, number_at, numbers_fit, widest};
+ghost use Rattle.equal_runs.specs.WholeTurning.{cut};
+ghost use Rattle.whole_solver.specs.Eliminating.{IsEliminatedBy, IsFrontLeft, IsKept, IsPivotRow, IsShortPivot};
 ghost use Rattle.whole_solver.specs.Rows.{line_in, nonzero_in};
 
 use crate::divisor::{common_short, divide_numbers};
-use crate::line::{clear_line, list_nonzero};
+use crate::line::{eliminate_line, list_nonzero};
 use crate::mix::{Known, Pivot};
-use crate::outcome::Cleared;
-use crate::wide::{clear_wide_line, divide_common, narrow, widen, write_signs};
+use crate::outcome::Eliminated;
+use crate::wide::{divide_common, eliminate_wide_line, narrow, widen, write_signs};
 use crate::word::{Widen, Word};
 
 /// Brings the line of so many numbers at the front of the row to lowest terms.
@@ -100,31 +100,23 @@ pub fn front_nonzero(row: &[i64], width: usize, places: &mut [usize]) -> usize
     list_nonzero(&row[1..width + 1], places)
 }
 
-/// Clears the pivot's column of the line at the front of the row, where the sizes of both rows say
+/// Eliminates the pivot's column from the line at the front of the row, where the sizes of both rows say
 /// that each step is within the limit. The line is at most `size`, which is kept so where it stays
 /// short. `room` has as many places as the line has numbers.
-pub fn clear_front(
+pub fn eliminate_front(
     row: &mut [i64],
     size: &mut u64,
     pivot: &[i64],
     known: Known,
     room: &mut [i128],
-) -> Cleared
-    requires column { known.step.c < length room.old }
+) -> Eliminated
     requires widths { (length room.old < length row.old) × (length room.old < length pivot.now) }
-    requires line { IsLine widest (length room.old) (line_in (length room.old) row.old) }
-    requires size { line_size (line_in (length room.old) row.old) ≤ size.old }
-    requires pivot { AreSizes known.most (line_in (length room.old) pivot.now).numbers }
-    requires pivot_size { known.most < 2 ^ 64 }
-    requires places { known.places.now ≡ nonzero_in (line_in (length room.old) pivot.now).numbers }
-    requires above { (0 < known.a) × (known.a ≤ widest) }
-    requires limit { (widest ≤ known.step.limit) × (known.step.limit ≤ 2 ^ 127 - 1) }
-    ensures fits { IfCleared result (step_size (line_size (line_in (length room.old) row.old))
-        (unsigned_abs (number_at (line_in (length room.old) row.old).numbers known.entry.step.c))
-        known.entry.a known.entry.most ≤ known.entry.step.limit) }
-    ensures line { IsFrontCleared result (length room.old)
-        (line_cleared known.entry.step.c known.entry.a
-        (line_in (length room.old) pivot.now).numbers (line_in (length room.old) row.old))
+    requires pivot { IsPivotRow known (length room.old)
+        (line_in (length room.old) pivot.now).numbers }
+    requires short { IsShortPivot known }
+    requires line { IsKept widest (length room.old) size.old (line_in (length room.old) row.old) }
+    ensures { IsFrontLeft result known.entry (length room.old)
+        (line_in (length room.old) pivot.now).numbers (line_in (length room.old) row.old)
         row.new size.new room.new }
 {
     let width = room.len();
@@ -134,41 +126,31 @@ pub fn clear_front(
         numbers: &pivot[1..width + 1],
         known,
     };
-    match clear_line(denominator, numbers, size, pivot, room) {
-        Cleared::Short { denominator } => {
+    match eliminate_line(denominator, numbers, size, pivot, room) {
+        Eliminated::Short { denominator } => {
             row[0] = denominator as i64;
-            Cleared::Short { denominator }
+            Eliminated::Short { denominator }
         }
-        Cleared::Wide { denominator } => Cleared::Wide { denominator },
-        Cleared::Misfit => Cleared::Misfit,
+        Eliminated::Wide { denominator } => Eliminated::Wide { denominator },
+        Eliminated::Misfit => Eliminated::Misfit,
     }
 }
 
 /// The same of a row of 128 bits, by a pivot row of either width, in place. Says whether each step
 /// is within the limit.
-pub fn clear_wide_front<P: Widen<i128>>(
+pub fn eliminate_wide_front<P: Widen<i128>>(
     row: &mut [i128],
     size: &mut u128,
     pivot: &[P],
     known: Known,
     width: usize,
 ) -> bool
-    requires column { known.step.c < width }
     requires widths { (width < length row.old) × (width < length pivot.now) }
-    requires line { IsLine known.step.limit width (line_in width row.old) }
-    requires size { line_size (line_in width row.old) ≤ size.old }
-    requires pivot { AreSizes known.most (line_in width (map P.value pivot.now)).numbers }
-    requires places { known.places.now
-        ≡ nonzero_in (line_in width (map P.value pivot.now)).numbers }
-    requires above { (0 < known.a) × (known.a ≤ 2 ^ 127 - 1) }
-    requires limit { known.step.limit ≤ 2 ^ 127 - 1 }
-    ensures fits { result ≡ true → step_size (line_size (line_in width row.old))
-        (unsigned_abs (number_at (line_in width row.old).numbers known.entry.step.c))
-        known.entry.a known.entry.most ≤ known.entry.step.limit }
-    ensures cleared { result ≡ true → line_in width row.new
-        ≡ line_cleared known.entry.step.c known.entry.a
-        (line_in width (map P.value pivot.now)).numbers (line_in width row.old) }
-    ensures line { result ≡ true → IsLine known.entry.step.limit width (line_in width row.new) }
+    requires pivot { IsPivotRow known width (line_in width (map P.value pivot.now)).numbers }
+    requires line { IsKept known.step.limit width size.old (line_in width row.old) }
+    ensures eliminated { result ≡ true → IsEliminatedBy known.entry
+        (line_in width (map P.value pivot.now)).numbers
+        (line_in width row.old) (line_in width row.new) }
     ensures size { result ≡ true → line_size (line_in width row.new) ≤ size.new }
 {
     let denominator = row[0].unsigned_abs();
@@ -177,7 +159,7 @@ pub fn clear_wide_front<P: Widen<i128>>(
         numbers: &pivot[1..width + 1],
         known,
     };
-    let Some(below) = clear_wide_line(denominator, numbers, size, pivot) else {
+    let Some(below) = eliminate_wide_line(denominator, numbers, size, pivot) else {
         return false;
     };
     row[0] = below as i128;

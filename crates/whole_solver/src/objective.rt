@@ -1,10 +1,10 @@
 //! The objective row, of 128 bits, and room for a turn.
 ghost use Rattle.std.specs.Prelude.{◌≡◌, ◌-◌, ◌^◌, ◌<◌, ◌≤◌, length, map, true, unsigned_abs};
-ghost use Rattle.equal_runs.specs.Lines.{AreSizes, IsLine, line_size, number_at};
-ghost use Rattle.equal_runs.specs.WholeTurning.{line_cleared, step_size};
-ghost use Rattle.whole_solver.specs.Rows.{line_in, nonzero_in};
+ghost use Rattle.equal_runs.specs.Lines.{line_size};
+ghost use Rattle.whole_solver.specs.Eliminating.{IsEliminatedBy, IsKept, IsPivotRow};
+ghost use Rattle.whole_solver.specs.Rows.{line_in};
 
-use crate::front::clear_wide_front;
+use crate::front::eliminate_wide_front;
 use crate::mix::Known;
 use crate::word::Widen;
 
@@ -25,32 +25,20 @@ pub struct Scratch {
 }
 
 impl Objective {
-    /// Clears the pivot's column, and says whether each step is within the limit.
-    pub fn clear<P: Widen<i128>>(&mut self, pivot: &[P], known: Known, width: usize) -> bool
-        requires column { known.step.c < width }
+    /// Eliminates the pivot's column, and says whether each step is within the limit.
+    pub fn eliminate<P: Widen<i128>>(&mut self, pivot: &[P], known: Known, width: usize) -> bool
         requires widths { (width < length self.old.numbers.items) × (width < length pivot.now) }
-        requires line { IsLine known.step.limit width (line_in width self.old.numbers.items) }
-        requires size { line_size (line_in width self.old.numbers.items) ≤ self.old.size }
-        requires pivot { AreSizes known.most (line_in width (map P.value pivot.now)).numbers }
-        requires places { known.places.now
-            ≡ nonzero_in (line_in width (map P.value pivot.now)).numbers }
-        requires above { (0 < known.a) × (known.a ≤ 2 ^ 127 - 1) }
-        requires limit { known.step.limit ≤ 2 ^ 127 - 1 }
-        ensures fits { result ≡ true
-            → step_size (line_size (line_in width self.old.numbers.items))
-            (unsigned_abs (number_at (line_in width self.old.numbers.items).numbers
-            known.entry.step.c)) known.entry.a known.entry.most ≤ known.entry.step.limit }
-        ensures cleared { result ≡ true → line_in width self.new.numbers.items
-            ≡ line_cleared known.entry.step.c known.entry.a
-            (line_in width (map P.value pivot.now)).numbers
+        requires pivot { IsPivotRow known width (line_in width (map P.value pivot.now)).numbers }
+        requires line { IsKept known.step.limit width self.old.size
             (line_in width self.old.numbers.items) }
-        ensures line { result ≡ true
-            → IsLine known.entry.step.limit width (line_in width self.new.numbers.items) }
+        ensures eliminated { result ≡ true → IsEliminatedBy known.entry
+            (line_in width (map P.value pivot.now)).numbers
+            (line_in width self.old.numbers.items) (line_in width self.new.numbers.items) }
         ensures size { result ≡ true
             → line_size (line_in width self.new.numbers.items) ≤ self.new.size }
         ensures places { length self.new.numbers.items ≡ length self.old.numbers.items }
     {
         let row = self.numbers.as_mut_slice();
-        clear_wide_front(row, &mut self.size, pivot, known, width)
+        eliminate_wide_front(row, &mut self.size, pivot, known, width)
     }
 }

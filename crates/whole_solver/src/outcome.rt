@@ -1,8 +1,8 @@
-//! How a line of 64 bits is cleared.
+//! What is left of a line of 64 bits.
 
-/// How a line of 64 bits is cleared.
+/// What is left of a line of 64 bits that the pivot's column is eliminated from.
 #[derive(Clone, Copy)]
-pub enum Cleared {
+pub enum Eliminated {
     /// 64 bits hold the line, which stands where it was, over this denominator.
     Short { denominator: u64 },
     /// They do not: the room has its numbers, over this denominator.

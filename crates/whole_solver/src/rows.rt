@@ -2,18 +2,19 @@
 ghost use Rattle.std.specs.Prelude.{◌≡◌, ◌≢◌, ◌+◌, ◌-◌, ◌^◌, ◌<◌, ◌≤◌, ℕ, IfOk, [], ◌∷◌, ◌++◌, false, length, pos, take, true, unsigned_abs, slice_set, vec_len};
 ghost use Rattle.compact_table.specs.Candidates.{best_with};
 ghost use Rattle.equal_runs.specs.Lines.{IsLine, line_of, line_size, number_at, widest};
-ghost use Rattle.equal_runs.specs.WholeTurning.{line_cleared, cut, step_size, steps_within, whole_ratios};
+ghost use Rattle.equal_runs.specs.WholeTurning.{cut, whole_ratios};
 ghost use Rattle.whole_solver.specs.Choices.{entry_of, right_side_of};
-ghost use Rattle.whole_solver.specs.Rows.{AreStepsBelow, AreStepsWithin, IsPivot, IsTurned, beside_basics, column_in, line_in, lines_after, lines_in, nonzero_in, pivot_line, row_at};
+ghost use Rattle.whole_solver.specs.Eliminating.{IsEliminatedBy, IsKept};
+ghost use Rattle.whole_solver.specs.Rows.{IsPivot, beside_basics, column_in, line_in, lines_in, nonzero_in, pivot_line, row_at};
 
 use crate::front::{
-    clear_front, clear_wide_front, cut_front, cut_wide_front, exchange_denominator, front_nonzero,
-    narrow_front, widen_front, write_front, write_front_signs,
+    cut_front, cut_wide_front, eliminate_front, eliminate_wide_front, exchange_denominator,
+    front_nonzero, narrow_front, widen_front, write_front, write_front_signs,
 };
 use crate::line::{list_place, size_of};
 use crate::mix::{Known, Step};
 use crate::objective::Objective;
-use crate::outcome::Cleared;
+use crate::outcome::Eliminated;
 use crate::ratios::{Candidate, RowRatio, better};
 use crate::wide::wide_size;
 use crate::word::WIDEST;
@@ -44,7 +45,7 @@ pub struct Rows {
 }
 
 impl Rows {
-    ghost use Rattle.whole_solver.specs.Stored.{AreStored, IsKnown, IsPlacedAt, IsRowCleared, IsStored, IsWrittenAt, SameCounts, is_wide_at, rows_in, size_at};
+    ghost use Rattle.whole_solver.specs.Stored.{AreKept, AreRowsEliminated, AreStored, IsChangedAt, IsKnown, IsPlacedAt, IsRowEliminated, IsStep, IsStepMade, IsStored, IsWrittenAt, SameCounts, is_wide_at, rows_in, size_at};
 
     /// No rows, and room for as many of as many numbers each, the denominator among them.
     pub fn with_room(alloc: Global, rows: usize, width: usize) -> Result<Rows, AllocError>
@@ -374,91 +375,71 @@ impl Rows {
         self.keep_signs(i, numbers.len());
     }
 
-    /// Clears the pivot's column of a short row by a short pivot row. Says whether each step is
+    /// Eliminates the pivot's column from a short row by a short pivot row. Says whether each step is
     /// within the limit.
-    fn clear_short_row(&mut self, i: usize, known: Known, room: &mut [i128]) -> bool
+    fn eliminate_short_row(&mut self, i: usize, known: Known, room: &mut [i128]) -> bool
         requires rows { (i < length self.old.short.rows) × (known.step.r ≢ i) }
-        requires widths { (known.step.c < length room.old)
-            × (length room.old < self.old.short.width) }
-        requires limit { (widest ≤ known.step.limit) × (known.step.limit ≤ 2 ^ 127 - 1) }
+        requires width { length room.old < self.old.short.width }
         requires line { IsLine known.step.limit (length room.old)
             (line_in (length room.old) (row_at (rows_in self.old) i)) }
         requires stored { IsStored (length room.old) self.old i }
-        requires pivot { IsKnown known.a known.most known.places.now known.step.r
-            (length room.old) self.old }
+        requires pivot { IsKnown known (length room.old) self.old }
         requires short { (is_wide_at self.old i ≡ false)
             × (is_wide_at self.old known.step.r ≡ false) }
-        ensures cleared { result ≡ true
-            → IsRowCleared known.entry (length room.old) i self.old self.new }
+        ensures eliminated { result ≡ true
+            → IsRowEliminated known.entry (length room.old) i self.old self.new }
         ensures count { SameCounts self.old self.new }
     {
         let mut size = self.sizes[i] as u64;
         let (pivot, row) = self.short.pair(known.step.r, i);
-        match clear_front(row, &mut size, pivot, known, room) {
-            Cleared::Short { .. } => self.sizes[i] = size as u128,
-            Cleared::Wide { denominator } => self.grow(i, denominator, room),
-            Cleared::Misfit => return false,
+        match eliminate_front(row, &mut size, pivot, known, room) {
+            Eliminated::Short { .. } => self.sizes[i] = size as u128,
+            Eliminated::Wide { denominator } => self.grow(i, denominator, room),
+            Eliminated::Misfit => return false,
         }
         true
     }
 
-    /// Clears the pivot's column of a wide row by a pivot row of either width, up to its signs.
+    /// Eliminates the pivot's column from a wide row by a pivot row of either width, up to its signs.
     /// Says whether each step is within the limit.
     fn mix_wide_row(&mut self, i: usize, known: Known, width: usize) -> bool
         requires rows { (i < length self.old.short.rows) × (known.step.r ≢ i) }
-        requires widths { (known.step.c < width) × (width < self.old.short.width) }
-        requires limit { known.step.limit ≤ 2 ^ 127 - 1 }
-        requires line { IsLine known.step.limit width
+        requires width { width < self.old.short.width }
+        requires line { IsKept known.step.limit width (size_at self.old i)
             (line_in width (row_at self.old.wide.rows i)) }
-        requires size { line_size (line_in width (row_at self.old.wide.rows i))
-            ≤ size_at self.old i }
-        requires pivot { IsKnown known.a known.most known.places.now known.step.r width self.old }
-        requires below { known.a ≤ 2 ^ 127 - 1 }
+        requires pivot { IsKnown known width self.old }
         requires wide { is_wide_at self.old i ≡ true }
-        ensures fits { result ≡ true
-            → step_size (line_size (line_in width (row_at self.old.wide.rows i)))
-            (unsigned_abs (number_at (line_in width (row_at self.old.wide.rows i)).numbers
-            known.entry.step.c)) known.entry.a known.entry.most ≤ known.entry.step.limit }
-        ensures cleared { result ≡ true → line_in width (row_at self.new.wide.rows i)
-            ≡ line_cleared known.entry.step.c known.entry.a
+        ensures eliminated { result ≡ true → IsEliminatedBy known.entry
             (line_in width (row_at (rows_in self.old) known.entry.step.r)).numbers
-            (line_in width (row_at self.old.wide.rows i)) }
-        ensures line { result ≡ true → IsLine known.entry.step.limit width
+            (line_in width (row_at self.old.wide.rows i))
             (line_in width (row_at self.new.wide.rows i)) }
         ensures size { result ≡ true → line_size (line_in width (row_at self.new.wide.rows i))
             ≤ size_at self.new i }
-        ensures rows { rows_in self.new
-            ≡ slice_set (rows_in self.old) i (row_at self.new.wide.rows i) }
-        ensures wide { self.new.wide.rows
-            ≡ slice_set self.old.wide.rows i (row_at self.new.wide.rows i) }
-        ensures short { self.new.short ≡ self.old.short }
-        ensures flags { self.new.is_wide.items ≡ self.old.is_wide.items }
-        ensures sizes { self.new.sizes.items
-            ≡ slice_set self.old.sizes.items i (size_at self.new i) }
+        ensures wide { is_wide_at self.new i ≡ true }
+        ensures changed { IsChangedAt i self.old self.new }
     {
         let mut size = self.sizes[i];
-        let is_cleared = if self.is_wide[known.step.r] {
+        let is_eliminated = if self.is_wide[known.step.r] {
             let (pivot, row) = self.wide.pair(known.step.r, i);
-            clear_wide_front(row, &mut size, pivot, known, width)
+            eliminate_wide_front(row, &mut size, pivot, known, width)
         } else {
             let pivot = self.short.row(known.step.r);
-            clear_wide_front(self.wide.row_mut(i), &mut size, pivot, known, width)
+            eliminate_wide_front(self.wide.row_mut(i), &mut size, pivot, known, width)
         };
         self.sizes[i] = size;
-        is_cleared
+        is_eliminated
     }
 
-    /// Clears the pivot's column of a row in 128 bits. Says whether each step is within the limit.
-    fn clear_wide_row(&mut self, i: usize, known: Known, width: usize) -> bool
+    /// Eliminates the pivot's column from a row in 128 bits. Says whether each step is within the limit.
+    fn eliminate_wide_row(&mut self, i: usize, known: Known, width: usize) -> bool
         requires rows { (i < length self.old.short.rows) × (known.step.r ≢ i) }
-        requires widths { (known.step.c < width) × (width < self.old.short.width) }
-        requires limit { known.step.limit ≤ 2 ^ 127 - 1 }
+        requires width { width < self.old.short.width }
         requires line { IsLine known.step.limit width
             (line_in width (row_at (rows_in self.old) i)) }
         requires stored { IsStored width self.old i }
-        requires pivot { IsKnown known.a known.most known.places.now known.step.r width self.old }
-        requires below { known.a ≤ 2 ^ 127 - 1 }
-        ensures cleared { result ≡ true → IsRowCleared known.entry width i self.old self.new }
+        requires pivot { IsKnown known width self.old }
+        ensures eliminated { result ≡ true
+            → IsRowEliminated known.entry width i self.old self.new }
         ensures count { SameCounts self.old self.new }
     {
         self.widen_row(i, width);
@@ -469,53 +450,38 @@ impl Rows {
         true
     }
 
-    /// Clears the pivot's column of a row: in 64 bits where neither row is wide. Says whether each
+    /// Eliminates the pivot's column from a row: in 64 bits where neither row is wide. Says whether each
     /// step is within the limit. `room` has as many places as a line has numbers.
-    fn clear_row(&mut self, i: usize, known: Known, room: &mut [i128]) -> bool
+    fn eliminate_row(&mut self, i: usize, known: Known, room: &mut [i128]) -> bool
         requires rows { (i < length self.old.short.rows) × (known.step.r ≢ i) }
-        requires widths { (known.step.c < length room.old)
-            × (length room.old < self.old.short.width) }
-        requires limit { (widest ≤ known.step.limit) × (known.step.limit ≤ 2 ^ 127 - 1) }
+        requires width { length room.old < self.old.short.width }
         requires line { IsLine known.step.limit (length room.old)
             (line_in (length room.old) (row_at (rows_in self.old) i)) }
         requires stored { IsStored (length room.old) self.old i }
-        requires pivot { IsKnown known.a known.most known.places.now known.step.r
-            (length room.old) self.old }
-        requires below { known.a ≤ 2 ^ 127 - 1 }
-        ensures cleared { result ≡ true
-            → IsRowCleared known.entry (length room.old) i self.old self.new }
+        requires pivot { IsKnown known (length room.old) self.old }
+        ensures eliminated { result ≡ true
+            → IsRowEliminated known.entry (length room.old) i self.old self.new }
         ensures count { SameCounts self.old self.new }
     {
         if self.is_wide[i] || self.is_wide[known.step.r] {
-            self.clear_wide_row(i, known, room.len())
+            self.eliminate_wide_row(i, known, room.len())
         } else {
-            self.clear_short_row(i, known, room)
+            self.eliminate_short_row(i, known, room)
         }
     }
 
-    /// Clears each row but the pivot row r, up to the first with a step that may leave the limit,
+    /// Eliminates the pivot's column from each row but row r, up to the first with a step that may leave the limit,
     /// and says whether there is none. `column_places` are the rows that are not 0 in the column:
     /// the others stay.
     #[inline(never)]
-    fn clear_rows(&mut self, known: Known, room: &mut [i128]) -> bool
-        requires widths { (known.step.c < length room.old)
-            × (length room.old < self.old.short.width) }
-        requires limit { (widest ≤ known.step.limit) × (known.step.limit ≤ 2 ^ 127 - 1) }
+    fn eliminate_rows(&mut self, known: Known, room: &mut [i128]) -> bool
+        requires width { length room.old < self.old.short.width }
         requires stored { AreStored known.step.limit (length room.old) self.old }
-        requires pivot { IsKnown known.a known.most known.places.now known.step.r
-            (length room.old) self.old }
-        requires below { known.a ≤ 2 ^ 127 - 1 }
-        requires column_places { known.step.column_places.now
+        requires pivot { IsKnown known (length room.old) self.old }
+        requires places { known.step.column_places.now
             ≡ nonzero_in (column_in known.step.c (rows_in self.old)) }
-        ensures fits { result ≡ true → AreStepsBelow known.entry.step.limit known.entry.step.c
-            known.entry.a known.entry.most known.entry.step.r (length room.old)
-            (rows_in self.old) }
-        ensures cleared { result ≡ true → lines_in (length room.old) (rows_in self.new)
-            ≡ lines_after known.entry.step.c known.entry.a known.entry.step.r
-            (line_in (length room.old) (row_at (rows_in self.old) known.entry.step.r)).numbers 0
-            (lines_in (length room.old) (rows_in self.old)) }
-        ensures stored { result ≡ true
-            → AreStored known.entry.step.limit (length room.old) self.new }
+        ensures eliminated { result ≡ true
+            → AreRowsEliminated known.entry (length room.old) self.old self.new }
         ensures count { SameCounts self.old self.new }
     {
         let Step {
@@ -526,7 +492,7 @@ impl Rows {
         for place in column_places {
             let i = *place;
             if i != r {
-                if !self.clear_row(i, known, room) {
+                if !self.eliminate_row(i, known, room) {
                     return false;
                 }
             }
@@ -534,26 +500,17 @@ impl Rows {
         true
     }
 
-    /// Clears the pivot's column of the objective row, and says whether each step is within the
+    /// Eliminates the pivot's column from the objective row, and says whether each step is within the
     /// limit.
-    fn clear_objective(&self, objective: &mut Objective, known: Known, width: usize) -> bool
-        requires widths { (known.step.c < width) × (width < self.now.short.width)
+    fn eliminate_objective(&self, objective: &mut Objective, known: Known, width: usize) -> bool
+        requires widths { (width < self.now.short.width)
             × (width < length objective.old.numbers.items) }
-        requires line { IsLine known.step.limit width
+        requires line { IsKept known.step.limit width objective.old.size
             (line_in width objective.old.numbers.items) }
-        requires size { line_size (line_in width objective.old.numbers.items)
-            ≤ objective.old.size }
-        requires pivot { IsKnown known.a known.most known.places.now known.step.r width self.now }
-        requires limit { (known.a ≤ 2 ^ 127 - 1) × (known.step.limit ≤ 2 ^ 127 - 1) }
-        ensures fits { result ≡ true
-            → step_size (line_size (line_in width objective.old.numbers.items))
-            (unsigned_abs (number_at (line_in width objective.old.numbers.items).numbers
-            known.entry.step.c)) known.entry.a known.entry.most ≤ known.entry.step.limit }
-        ensures cleared { result ≡ true → line_in width objective.new.numbers.items
-            ≡ line_cleared known.entry.step.c known.entry.a
+        requires pivot { IsKnown known width self.now }
+        ensures eliminated { result ≡ true → IsEliminatedBy known.entry
             (line_in width (row_at (rows_in self.now) known.entry.step.r)).numbers
-            (line_in width objective.old.numbers.items) }
-        ensures line { result ≡ true → IsLine known.entry.step.limit width
+            (line_in width objective.old.numbers.items)
             (line_in width objective.new.numbers.items) }
         ensures size { result ≡ true
             → line_size (line_in width objective.new.numbers.items) ≤ objective.new.size }
@@ -562,16 +519,16 @@ impl Rows {
     {
         let r = known.step.r;
         if self.is_wide[r] {
-            objective.clear(self.wide.row(r), known, width)
+            objective.eliminate(self.wide.row(r), known, width)
         } else {
-            objective.clear(self.short.row(r), known, width)
+            objective.eliminate(self.short.row(r), known, width)
         }
     }
 
     /// Row r becomes the pivot row. Answers the number that its numbers stand over then, and a size
     /// that none of them is above.
     fn place_pivot(&mut self, r: usize, c: usize, width: usize) -> (u128, u128)
-        requires widths { (c < width) × (width < self.old.short.width) }
+        requires width { width < self.old.short.width }
         requires pivot { IsPivot width c r (rows_in self.old) }
         requires line { IsLine (2 ^ 127 - 1) width (line_in width (row_at (rows_in self.old) r)) }
         requires stored { IsStored width self.old r }
@@ -585,7 +542,7 @@ impl Rows {
     /// The rows of a turn and the objective row, of `width` numbers each. Says whether each step is
     /// within the limit. `places` is room for the places where the pivot row is not 0, and `room`
     /// for the numbers of a line in 128 bits before it is cut.
-    pub fn turn(
+    pub fn pivot(
         &mut self,
         objective: &mut Objective,
         places: &mut [usize],
@@ -593,35 +550,15 @@ impl Rows {
         width: usize,
         step: Step,
     ) -> bool
-        requires widths { (step.c < width) × (width < self.old.short.width)
+        requires widths { (width < self.old.short.width)
             × (width < length objective.old.numbers.items) }
         requires room { (width ≤ length room.old) × (width ≤ length places.old) }
-        requires limit { (widest ≤ step.limit) × (step.limit ≤ 2 ^ 127 - 1) }
-        requires pivot { IsPivot width step.c step.r (rows_in self.old) }
-        requires column_places { step.column_places.now
-            ≡ nonzero_in (column_in step.c (rows_in self.old)) }
-        requires stored { AreStored step.limit width self.old }
-        requires objective { IsLine step.limit width (line_in width objective.old.numbers.items) }
-        requires size { line_size (line_in width objective.old.numbers.items)
-            ≤ objective.old.size }
-        ensures objective_fits { result ≡ true → steps_within step.entry.limit step.entry.c
-            (cut (line_in width (row_at (rows_in self.old) step.entry.r)))
-            (line_in width objective.old.numbers.items) ≡ true }
-        ensures rows_fit { result ≡ true
-            → AreStepsWithin step.entry.limit step.entry.c step.entry.r
-            (cut (line_in width (row_at (rows_in self.old) step.entry.r))) width
-            (rows_in self.old) }
-        ensures turned { result ≡ true → IsTurned width step.entry.c step.entry.r
-            (rows_in self.old) objective.old.numbers.items
-            (rows_in self.new) objective.new.numbers.items }
-        ensures stored { result ≡ true → AreStored step.entry.limit width self.new }
-        ensures objective { result ≡ true → IsLine step.entry.limit width
-            (line_in width objective.new.numbers.items) }
-        ensures size { result ≡ true
-            → line_size (line_in width objective.new.numbers.items) ≤ objective.new.size }
-        ensures count { SameCounts self.old self.new }
-        ensures places { length objective.new.numbers.items
-            ≡ length objective.old.numbers.items }
+        requires step { IsStep step width self.old objective.old }
+        ensures pivoted { result ≡ true
+            → IsStepMade step.entry width self.old objective.old self.new objective.new }
+        ensures kept { result ≡ true → AreKept step.entry.limit width self.new objective.new }
+        ensures shape { SameCounts self.old self.new × (length objective.new.numbers.items
+            ≡ length objective.old.numbers.items) }
     {
         let Step { r, c, .. } = step;
         let (a, most) = self.place_pivot(r, c, width);
@@ -632,9 +569,9 @@ impl Rows {
             most,
             places: &places[..count],
         };
-        if !self.clear_objective(objective, known, width) {
+        if !self.eliminate_objective(objective, known, width) {
             return false;
         }
-        self.clear_rows(known, &mut room[..width])
+        self.eliminate_rows(known, &mut room[..width])
     }
 }

@@ -6,7 +6,8 @@ ghost use Rattle.table_run.specs.Places.{numbers};
 ghost use Rattle.compact_table.specs.declared.limits.TheConstants.{MAX_SIDE};
 ghost use Rattle.equal_runs.specs.WholeTurning.{whole_entering, whole_pivoted, lines_steps_within, whole_ratios};
 ghost use Rattle.equal_runs.specs.WholeRunning.{first_whole_table, whole_price, whole_where_basic};
-ghost use Rattle.equal_runs.specs.Lines.{IsLine, entry_of, line_size, taken_in, widest};
+ghost use Rattle.equal_runs.specs.Lines.{entry_of, taken_in, widest};
+ghost use Rattle.whole_solver.specs.Eliminating.{IsKept};
 ghost use Rattle.compact_table.specs.Labels.{as_column};
 ghost use Rattle.whole_solver.specs.Rows.{IsPivot, line_in, row_at};
 
@@ -114,11 +115,8 @@ impl WholeTable {
         requires width { length entries.now ≡ width_of self.old }
         ensures line { result ≡ true → line_in (width_of self.old) self.new.objective.numbers.items
             ≡ taken_in (map N.fraction entries.now) }
-        ensures within { result ≡ true
-            → IsLine widest (width_of self.old)
+        ensures kept { result ≡ true → IsKept widest (width_of self.old) self.new.objective.size
             (line_in (width_of self.old) self.new.objective.numbers.items) }
-        ensures size { result ≡ true → line_size (line_in (width_of self.old)
-            self.new.objective.numbers.items) ≤ self.new.objective.size }
         ensures labels { self.new.labels.items ≡ self.old.labels.items }
         ensures basics { self.new.basics.items ≡ self.old.basics.items }
         ensures rows { self.new.rows ≡ self.old.rows }
@@ -256,7 +254,7 @@ impl WholeTable {
             column_places: &self.column_places[..count],
             limit,
         };
-        let fits = self.rows.turn(
+        let fits = self.rows.pivot(
             &mut self.objective,
             self.scratch.places.as_mut_slice(),
             self.scratch.room.as_mut_slice(),

@@ -3,9 +3,9 @@
 ghost use Rattle.std.specs.Prelude.{◌≡◌, true, IfSome, ◌<◌, ◌≤◌, ◌+◌, ◌-◌, ◌*◌, ◌/◌, ◌^◌, pos, unsigned_abs, length, map, int_div};
 ghost use Rattle.std.specs.Int.{int_signum};
 ghost use Rattle.arithmetic.specs.Gcd.{gcd as gcd_of};
-ghost use Rattle.equal_runs.specs.WholeTurning.{line_cleared, cut, cut_where_wide, step_size};
+ghost use Rattle.equal_runs.specs.WholeTurning.{cut, cut_where_wide};
 ghost use Rattle.equal_runs.specs.Lines.{AreSizes, IsLine, line_fits, line_of, line_size, number_at, numbers_fit, widest};
-ghost use Rattle.whole_solver.specs.Rows.{nonzero_in};
+ghost use Rattle.whole_solver.specs.Eliminating.{IsEliminatedBy, IsKept, IsPivotRow};
 
 use crate::divisor::{common, common_of_wide, divisor_of, whole_quotient, wide_quotient};
 use crate::mix::{Factors, Known, Pivot, mix};
@@ -209,30 +209,21 @@ fn without_common_wide(a: u128, x: i128) -> Factors<i128>
     }
 }
 
-/// Clears the pivot's column of the line, where the sizes of both rows say that each step is within
+/// Eliminates the pivot's column from the line, where the sizes of both rows say that each step is within
 /// the limit, and answers the line's new denominator. The line is at most `size`, which is kept so.
-pub fn clear_wide_line<P: Widen<i128>>(
+pub fn eliminate_wide_line<P: Widen<i128>>(
     denominator: u128,
     numbers: &mut [i128],
     size: &mut u128,
     pivot: Pivot<P>,
 ) -> Option<u128>
-    requires column { pivot.known.step.c < length numbers.old }
-    requires width { length numbers.old ≡ length pivot.numbers.now }
-    requires line { IsLine pivot.known.step.limit (length numbers.old)
+    requires pivot { IsPivotRow pivot.known (length numbers.old)
+        (map P.value pivot.numbers.now) }
+    requires line { IsKept pivot.known.step.limit (length numbers.old) size.old
         (line_of denominator numbers.old) }
-    requires size { line_size (line_of denominator numbers.old) ≤ size.old }
-    requires pivot { AreSizes pivot.known.most (map P.value pivot.numbers.now) }
-    requires places { pivot.known.places.now ≡ nonzero_in (map P.value pivot.numbers.now) }
-    requires above { 0 < pivot.known.a }
-    requires below { pivot.known.a ≤ 2 ^ 127 - 1 }
-    requires limit { pivot.known.step.limit ≤ 2 ^ 127 - 1 }
-    ensures fits { IfSome result (λ d. step_size (line_size (line_of denominator numbers.old))
-        (unsigned_abs (number_at numbers.old pivot.entry.known.step.c)) pivot.entry.known.a
-        pivot.entry.known.most ≤ pivot.entry.known.step.limit) }
-    ensures line { IfSome result (λ d. line_of d numbers.new
-        ≡ line_cleared pivot.entry.known.step.c pivot.entry.known.a
-        (map P.value pivot.entry.numbers.now) (line_of denominator numbers.old)) }
+    ensures eliminated { IfSome result (λ d. IsEliminatedBy pivot.entry.known
+        (map P.value pivot.entry.numbers.now) (line_of denominator numbers.old)
+        (line_of d numbers.new)) }
     ensures size { IfSome result (λ d. line_size (line_of d numbers.new) ≤ size.new) }
 {
     let Known { step, a, .. } = pivot.known;

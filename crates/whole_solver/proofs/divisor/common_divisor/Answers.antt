@@ -1,4 +1,4 @@
-use Rattle.whole_solver.proofs.Cleared.{exact_shared}
+use Rattle.whole_solver.proofs.Eliminating.{exact_shared}
 use Rattle.whole_solver.proofs.divisor.common_divisor.Goals as goal
 
 pub returns-in-Some : goal.returns-in-Some

@@ -1,5 +1,5 @@
 use Rattle.std.proofs.Common.{arith}
-use Rattle.whole_solver.proofs.Cleared.{shared_above, shared_below}
+use Rattle.whole_solver.proofs.Eliminating.{shared_above, shared_below}
 use Rattle.whole_solver.proofs.divisor.short_gcd.Goals as goal
 
 pub overflow_cast-result : goal.overflow_cast-result

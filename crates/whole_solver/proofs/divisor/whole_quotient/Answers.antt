@@ -1,7 +1,7 @@
 use Rattle.std.proofs.Common.{rules, ◌≡◌, ◌∙◌, ◌*◌, ap, unsigned_abs, Fits, w64, arith}
 use Rattle.std.proofs.lemmas.Int.{ints, to_z-of_z}
 use mir.Syntax.{w128}
-use Rattle.whole_solver.proofs.Cleared.{undivided_signed, exact_below}
+use Rattle.whole_solver.proofs.Eliminating.{undivided_signed, exact_below}
 use Rattle.whole_solver.proofs.divisor.whole_quotient.Goals as goal
 
 pub returns-then-divisor-eq1 : goal.returns-then-divisor-eq1

@@ -1,6 +1,6 @@
 use Rattle.std.proofs.lemmas.Int.{to_z-of_z}
 use mir.Syntax.{w128}
-use Rattle.whole_solver.proofs.Cleared.{undivided_signed}
+use Rattle.whole_solver.proofs.Eliminating.{undivided_signed}
 use Rattle.whole_solver.proofs.divisor.wide_quotient.Goals as goal
 
 pub returns-then-divisor-eq1 : goal.returns-then-divisor-eq1

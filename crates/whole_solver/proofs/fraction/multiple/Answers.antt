@@ -4,7 +4,7 @@ use Rattle.arithmetic.specs.Gcd.{gcd}
 use Rattle.arithmetic.proofs.GcdLaws.{gcd_pos_right, gcd_dvd_right, pos_of_quotient}
 use Rattle.equal_runs.specs.Lines.{multiple}
 use Rattle.whole_solver.proofs.Taken.{multiple_one}
-use Rattle.whole_solver.proofs.Cleared.{shared_above}
+use Rattle.whole_solver.proofs.Eliminating.{shared_above}
 use Rattle.whole_solver.proofs.fraction.multiple.Goals as goal
 
 pub returns-then-one-eq1 : goal.returns-then-one-eq1

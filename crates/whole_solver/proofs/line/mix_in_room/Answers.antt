@@ -6,7 +6,7 @@ use Rattle.std.proofs.Math.Nat.{mul-pos}
 use Rattle.equal_runs.specs.Lines.{AreSizes, line_of, numbers_fit, widest}
 use Rattle.equal_runs.specs.WholeTurning.{cross_difference, cut_where_wide}
 use Rattle.equal_runs.proofs.LineSteps.{sizes_of_fit, size_at_most}
-use Rattle.whole_solver.specs.Clearing.{IsShort}
+use Rattle.whole_solver.specs.Eliminating.{IsShort}
 use Rattle.whole_solver.proofs.Numbers.{size_made}
 use Rattle.whole_solver.proofs.Words.{mixed_all, places_of_words, room_of_words}
 use Rattle.whole_solver.proofs.line.mix_in_room.Goals as goal

@@ -2,7 +2,7 @@ use Rattle.std.proofs.Common.{rules, ◌≡◌, unsigned_abs, FitsSigned, w64}
 use Rattle.std.proofs.lemmas.Int.{to_z-of_z}
 use Rattle.std.proofs.lemmas.Option.{IfSome_then}
 use Rattle.equal_runs.specs.Lines.{line_of, line_size}
-use Rattle.whole_solver.proofs.Cleared.{steps_above}
+use Rattle.whole_solver.proofs.Eliminating.{steps_above}
 use Rattle.whole_solver.proofs.Numbers.{size_made}
 use Rattle.whole_solver.proofs.line.size_to_mix.Goals as goal
 

@@ -3,7 +3,7 @@ use Rattle.std.proofs.lemmas.Int.{to_z-of_z}
 use Rattle.std.proofs.lemmas.Option.{IfSome_then}
 use mir.Syntax.{w128}
 use Rattle.equal_runs.specs.Lines.{line_of, line_size}
-use Rattle.whole_solver.proofs.Cleared.{steps_above}
+use Rattle.whole_solver.proofs.Eliminating.{steps_above}
 use Rattle.whole_solver.proofs.Numbers.{size_made}
 use Rattle.whole_solver.proofs.wide.wide_size_to_mix.Goals as goal
 

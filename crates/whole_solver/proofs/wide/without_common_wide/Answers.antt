@@ -3,7 +3,7 @@ use Rattle.std.proofs.lemmas.Int.{to_z-of_z, to_z_pos}
 use Rattle.std.proofs.Math.Nat.{div-le_self}
 use mir.Syntax.{w128}
 use Rattle.arithmetic.specs.Gcd.{gcd}
-use Rattle.whole_solver.proofs.Cleared.{shared_above, shared_below, shared_with_one, undivided, undivided_signed, quotient_is}
+use Rattle.whole_solver.proofs.Eliminating.{shared_above, shared_below, shared_with_one, undivided, undivided_signed, quotient_is}
 use Rattle.whole_solver.proofs.wide.without_common_wide.Goals as goal
 
 pub returns-then-a-eq1-clause-a : goal.returns-then-a-eq1-clause-a

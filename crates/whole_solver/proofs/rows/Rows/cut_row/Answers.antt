@@ -1,5 +1,4 @@
-use Rattle.std.proofs.Common.{◌≡◌, ◌<◌, ◌≤◌, ◌-◌, ◌^◌, ◌∙◌, refl, sym, ap, subst, arith, false, true, ℕ, ℤ, List, [], length, set, length-set}
-use Rattle.std.proofs.lemmas.List.{set-get_or}
+use Rattle.std.proofs.Common.{◌≡◌, ◌<◌, ◌≤◌, ◌-◌, ◌^◌, ◌∙◌, refl, sym, ap, subst, arith, false, true, ℕ, ℤ, List, length, set, length-set}
 use Rattle.lists.specs.Parts.{refit}
 use Rattle.compact_table.proofs.ArenaSteps.{at_set_same}
 use Rattle.equal_runs.specs.Lines.{IsLine, Line, line_size, widest}
@@ -7,10 +6,10 @@ use Rattle.equal_runs.specs.WholeTurning.{cut}
 use Rattle.equal_runs.proofs.LineSteps.{cut_within}
 use Rattle.whole_solver.specs.Rows.{line_in, row_at}
 use Rattle.whole_solver.specs.Stored.{rows_in, size_at}
-use Rattle.whole_solver.proofs.Changed.{row_placed, stored_short, written, written_after}
+use Rattle.whole_solver.proofs.Changed.{changed_at, row_placed, stored_short, written, written_after}
 use Rattle.whole_solver.proofs.Fronts.{cut_size, size_of_front}
 use Rattle.whole_solver.proofs.Standing.{flag_there, row_standing_short, row_standing_wide}
-use Rattle.whole_solver.proofs.Stored.{row_short, row_wide, set_again}
+use Rattle.whole_solver.proofs.Stored.{row_short, row_wide, put, stays}
 use Rattle.whole_solver.proofs.Turned.{line_below}
 use Rattle.whole_solver.proofs.rows.Rows.cut_row.Goals as goal
 
@@ -52,14 +51,7 @@ returns-then-not-index-clause-written c =
     let kept : line_size (line_in w (row_at (set t.short.rows r (refit t.short.width x y)) r)) ≤ size_at t r = omega (arith, less, c.requires.stored.size) in
     let low : line_size (line_in w (row_at (set t.short.rows r (refit t.short.width x y)) r)) ≤ widest = omega (arith, less, short.0) in
     written w r t _
-    (record {
-      flags = sym (set-get_or t.is_wide.items r false);
-      sizes = sym (set-get_or t.sizes.items r 0);
-      short = set_again t.short.rows r _ [];
-      wide = sym (set-get_or t.wide.rows r []);
-      spare = refl;
-      width = refl;
-    })
+    (changed_at (stays refl) (stays refl) (put _ refl) (stays refl) refl refl)
     (stored_short w r _ flag kept low short.1)
 
 pub cut_wide_front-requires-clause-line : goal.cut_wide_front-requires-clause-line
@@ -114,11 +106,4 @@ returns-clause-written c =
     let t = c.args.self.now in
     let r = c.args.r in
     written_after c.args.width r t _ c.settle.new.self c.settle.ensures.written
-    (record {
-      flags = sym (set-get_or t.is_wide.items r false);
-      sizes = set_again t.sizes.items r _ 0;
-      short = sym (set-get_or t.short.rows r []);
-      wide = set_again t.wide.rows r _ [];
-      spare = refl;
-      width = refl;
-    })
+    (changed_at (stays refl) (put _ refl) (stays refl) (put _ refl) refl refl)

@@ -1,16 +1,16 @@
-use Rattle.std.proofs.Common.{◌≡◌, ◌<◌, ◌≤◌, ◌+◌, ◌-◌, ◌^◌, ◌∙◌, refl, sym, ap, subst, arith, false, true, ℕ, ℤ, List, [], length, set, unsigned_abs, length-set, rules, FitsSigned}
+use Rattle.std.proofs.Common.{◌≡◌, ◌<◌, ◌≤◌, ◌+◌, ◌-◌, ◌^◌, ◌∙◌, refl, sym, ap, subst, arith, false, true, ℕ, ℤ, List, length, set, unsigned_abs, length-set, rules, FitsSigned}
 use mir.Syntax.{w128}
 use Rattle.std.proofs.lemmas.Int.{to_z-of_z}
-use Rattle.std.proofs.lemmas.List.{map-id, set-get_or}
+use Rattle.std.proofs.lemmas.List.{map-id}
 use Rattle.lists.specs.Parts.{refit}
 use Rattle.equal_runs.specs.Lines.{Line, line_size, number_at, widest}
 use Rattle.whole_solver.specs.Rows.{line_in, pivot_line, row_at}
 use Rattle.whole_solver.specs.Stored.{IsWrittenAt, rows_in, size_at}
 use Rattle.whole_solver.specs.declared.rows.Rows.{Rows}
-use Rattle.whole_solver.proofs.Changed.{row_placed, stored_short, written, written_after}
+use Rattle.whole_solver.proofs.Changed.{changed_at, row_placed, stored_short, written, written_after}
 use Rattle.whole_solver.proofs.Fronts.{exchanged, pivot_size}
 use Rattle.whole_solver.proofs.Standing.{flag_there, row_standing_short, row_standing_wide}
-use Rattle.whole_solver.proofs.Stored.{row_short, row_wide, set_again}
+use Rattle.whole_solver.proofs.Stored.{row_short, row_wide, put, stays}
 use Rattle.whole_solver.proofs.Turned.{line_below}
 use Rattle.whole_solver.proofs.rows.Rows.exchange_row.Goals.{then-index, else-index}
 use Rattle.whole_solver.proofs.rows.Rows.exchange_row.Goals as goal
@@ -110,14 +110,7 @@ returns-clause-written c =
       | then-index w ↦
           subst (λ (s : Rows). IsWrittenAt n r t s) (sym w.self-is)
           (written_after n r t _ w.keep_signs.new.self w.keep_signs.ensures.written
-          (record {
-            flags = sym (set-get_or t.is_wide.items r false);
-            sizes = sym (set-get_or t.sizes.items r 0);
-            short = sym (set-get_or t.short.rows r []);
-            wide = set_again t.wide.rows r _ [];
-            spare = refl;
-            width = refl;
-          }))
+          (changed_at (stays refl) (stays refl) (stays refl) (put _ refl) refl refl))
       | else-index w ↦
           (let y = w.exchange_denominator-else-index.new.row in
           let flag = flag_there t r c.index.result.now false c.requires.row c.index.ensures w.if-index.false in
@@ -129,13 +122,6 @@ returns-clause-written c =
           let low : line_size (line_in n row) ≤ widest = omega (arith, size, short.0) in
           subst (λ (s : Rows). IsWrittenAt n r t s) (sym w.self-is)
           (written n r t _
-          (record {
-            flags = sym (set-get_or t.is_wide.items r false);
-            sizes = sym (set-get_or t.sizes.items r 0);
-            short = set_again t.short.rows r _ [];
-            wide = sym (set-get_or t.wide.rows r []);
-            spare = refl;
-            width = refl;
-          })
+          (changed_at (stays refl) (stays refl) (put _ refl) (stays refl) refl refl)
           (stored_short n r _ flag kept low short.1)))
     ]

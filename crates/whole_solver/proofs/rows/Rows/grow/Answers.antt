@@ -1,12 +1,11 @@
-use Rattle.std.proofs.Common.{◌≡◌, ◌<◌, ◌≤◌, ◌∙◌, refl, sym, ap, subst, arith, false, true, ℕ, ℤ, List, [], length, set, length-set, bit_or}
-use Rattle.std.proofs.lemmas.List.{set-get_or}
+use Rattle.std.proofs.Common.{◌≡◌, ◌<◌, ◌≤◌, ◌∙◌, refl, sym, ap, subst, arith, false, true, ℕ, ℤ, List, length, set, length-set, bit_or}
 use Rattle.lists.specs.Parts.{refit}
 use Rattle.compact_table.proofs.ArenaSteps.{at_set_same}
 use Rattle.equal_runs.specs.Lines.{Line, line_of, line_size}
 use Rattle.whole_solver.specs.Rows.{line_in, row_at}
-use Rattle.whole_solver.proofs.Changed.{row_placed, written_after}
+use Rattle.whole_solver.proofs.Changed.{changed_at, row_placed, written_after}
 use Rattle.whole_solver.proofs.Numbers.{size_made}
-use Rattle.whole_solver.proofs.Stored.{row_wide, set_again}
+use Rattle.whole_solver.proofs.Stored.{row_wide, put, stays}
 use Rattle.whole_solver.proofs.rows.Rows.grow.Goals as goal
 
 pub keep_signs-requires-clause-size : goal.keep_signs-requires-clause-size
@@ -41,11 +40,4 @@ returns-clause-written c =
     let t = c.args.self.now in
     let i = c.args.i in
     written_after (length c.args.numbers.now) i t _ c.keep_signs.new.self c.keep_signs.ensures.written
-    (record {
-      flags = set_again t.is_wide.items i true false;
-      sizes = set_again t.sizes.items i _ 0;
-      short = sym (set-get_or t.short.rows i []);
-      wide = set_again t.wide.rows i _ [];
-      spare = refl;
-      width = refl;
-    })
+    (changed_at (put _ refl) (put _ refl) (stays refl) (put _ refl) refl refl)

@@ -1,12 +1,11 @@
-use Rattle.std.proofs.Common.{◌≡◌, ◌<◌, ◌∙◌, refl, sym, ap, subst, arith, false, ℤ, List, [], length, map, take, ◌+◌, set, length-set}
+use Rattle.std.proofs.Common.{◌≡◌, ◌<◌, ◌∙◌, refl, sym, ap, subst, arith, ℤ, List, length, map, take, ◌+◌, set, length-set}
 use Rattle.std.specs.Int.{int_signum}
-use Rattle.std.proofs.lemmas.List.{set-get_or}
 use Rattle.lists.specs.Parts.{refit}
 use Rattle.whole_solver.specs.Rows.{row_at}
 use Rattle.whole_solver.specs.Stored.{HasSigns}
-use Rattle.whole_solver.proofs.Changed.{row_placed, stored_wide, written}
+use Rattle.whole_solver.proofs.Changed.{changed_at, row_placed, stored_wide, written}
 use Rattle.whole_solver.proofs.Fronts.{signs_of_signs}
-use Rattle.whole_solver.proofs.Stored.{set_again, signs_written}
+use Rattle.whole_solver.proofs.Stored.{put, stays, signs_written}
 use Rattle.whole_solver.proofs.rows.Rows.keep_signs.Goals as goal
 
 pub returns-clause-rows : goal.returns-clause-rows
@@ -27,12 +26,5 @@ returns-clause-written c =
     let low : i < length t.short.rows = c.requires.row in
     let still : i < length (set t.short.rows i (refit t.short.width x y)) = simp length-set low in
     written w i t _
-    (record {
-      flags = sym (set-get_or t.is_wide.items i false);
-      sizes = sym (set-get_or t.sizes.items i 0);
-      short = set_again t.short.rows i _ [];
-      wide = sym (set-get_or t.wide.rows i []);
-      spare = refl;
-      width = refl;
-    })
+    (changed_at (stays refl) (stays refl) (put _ refl) (stays refl) refl refl)
     (stored_wide w i _ still c.requires.wide c.requires.size (subst (λ (s : List ℤ). HasSigns w s z) (sym (row_placed t.short.width i t.short.rows x y low full)) signs))

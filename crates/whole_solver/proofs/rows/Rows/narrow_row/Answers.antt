@@ -1,12 +1,11 @@
-use Rattle.std.proofs.Common.{◌≡◌, ◌≤◌, ◌∙◌, refl, sym, ap, subst, arith, false, [], length, take, set, ◌+◌}
-use Rattle.std.proofs.lemmas.List.{set-get_or}
+use Rattle.std.proofs.Common.{◌≡◌, ◌≤◌, ◌∙◌, refl, sym, ap, subst, arith, false, length, take, set, ◌+◌}
 use Rattle.lists.specs.Parts.{refit}
 use Rattle.equal_runs.specs.Lines.{Line, line_size, widest}
 use Rattle.whole_solver.specs.Rows.{line_in, row_at}
 use Rattle.whole_solver.specs.Stored.{size_at}
-use Rattle.whole_solver.proofs.Changed.{flag_unset, row_placed, stored_short, written}
+use Rattle.whole_solver.proofs.Changed.{changed_at, flag_unset, row_placed, stored_short, written}
 use Rattle.whole_solver.proofs.Fronts.{line_of_front}
-use Rattle.whole_solver.proofs.Stored.{row_short, row_wide, set_again}
+use Rattle.whole_solver.proofs.Stored.{row_short, row_wide, put, stays}
 use Rattle.whole_solver.proofs.Turned.{size_below}
 use Rattle.whole_solver.proofs.rows.Rows.narrow_row.Goals as goal
 
@@ -37,13 +36,6 @@ returns-clause-written c =
     let same : line_in w (row_at (set t.short.rows i (refit t.short.width x y)) i) ≡ line_in w z =
     ap (line_in w) (row_placed t.short.width i t.short.rows x y c.requires.row full) ∙ line_of_front w y z (c.narrow_front.ensures ∙ ap (take (w + 1)) c.row.ensures.row) in
     written w i t _
-    (record {
-      flags = set_again t.is_wide.items i false false;
-      sizes = sym (set-get_or t.sizes.items i 0);
-      short = set_again t.short.rows i _ [];
-      wide = sym (set-get_or t.wide.rows i []);
-      spare = refl;
-      width = refl;
-    })
+    (changed_at (put _ refl) (stays refl) (put _ refl) (stays refl) refl refl)
     (stored_short w i _ (flag_unset t.is_wide.items i) (subst (λ (l : Line). line_size l ≤ size_at t i) (sym same) c.requires.size)
     (subst (λ (l : Line). line_size l ≤ widest) (sym same) (size_below widest w (line_in w z) c.requires.line)) c.requires.size_short)

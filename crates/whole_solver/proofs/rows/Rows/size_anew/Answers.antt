@@ -1,13 +1,12 @@
-use Rattle.std.proofs.Common.{◌≡◌, ◌<◌, ◌≤◌, ◌^◌, ◌∙◌, refl, sym, subst, arith, false, true, ℕ, ℤ, List, []}
-use Rattle.std.proofs.lemmas.List.{set-get_or}
+use Rattle.std.proofs.Common.{◌≡◌, ◌<◌, ◌≤◌, ◌^◌, ◌∙◌, refl, sym, subst, arith, false, true, ℕ, ℤ, List}
 use Rattle.compact_table.proofs.ArenaSteps.{at_set_same}
 use Rattle.equal_runs.specs.Lines.{line_size}
 use Rattle.whole_solver.specs.Rows.{line_in, row_at}
 use Rattle.whole_solver.specs.Stored.{is_wide_at, rows_in}
-use Rattle.whole_solver.proofs.Changed.{written}
+use Rattle.whole_solver.proofs.Changed.{changed_at, written}
 use Rattle.whole_solver.proofs.Fronts.{size_of_front}
 use Rattle.whole_solver.proofs.Standing.{flag_there, row_standing_short, row_standing_wide}
-use Rattle.whole_solver.proofs.Stored.{set_again}
+use Rattle.whole_solver.proofs.Stored.{put, stays}
 use Rattle.whole_solver.proofs.rows.Rows.size_anew.Goals.{then-index, else-index}
 use Rattle.whole_solver.proofs.rows.Rows.size_anew.Goals as goal
 
@@ -51,14 +50,7 @@ returns-clause-written c =
       | else-index w ↦ (λ (_ : is_wide_at t i ≡ false). omega arith)
     ] in
     written n i t _
-    (record {
-      flags = sym (set-get_or t.is_wide.items i false);
-      sizes = set_again t.sizes.items i size 0;
-      short = sym (set-get_or t.short.rows i []);
-      wide = sym (set-get_or t.wide.rows i []);
-      spare = refl;
-      width = refl;
-    })
+    (changed_at (stays refl) (put _ refl) (stays refl) (stays refl) refl refl)
     (record {
       size = subst (λ (k : ℕ). line_size (line_in n (row_at (rows_in t) i)) ≤ k) (sym kept) low;
       short = λ e. ((c.requires.stored.short e).0, subst (λ (k : ℕ). k < 2 ^ 64) (sym kept) (small e));

@@ -1,14 +1,13 @@
-use Rattle.std.proofs.Common.{◌≡◌, ◌<◌, ◌≤◌, ◌∙◌, refl, sym, ap, subst, arith, false, true, ℤ, List, [], length, take, set, ◌+◌, length-set}
-use Rattle.std.proofs.lemmas.List.{set-get_or}
+use Rattle.std.proofs.Common.{◌≡◌, ◌<◌, ◌≤◌, ◌∙◌, refl, sym, ap, subst, arith, false, true, ℤ, List, length, take, set, ◌+◌, length-set}
 use Rattle.lists.specs.Parts.{refit}
 use Rattle.compact_table.proofs.ArenaSteps.{at_set_same}
 use Rattle.equal_runs.specs.Lines.{Line, line_size}
 use Rattle.whole_solver.specs.Rows.{line_in, row_at}
 use Rattle.whole_solver.specs.Stored.{HasSigns, size_at}
-use Rattle.whole_solver.proofs.Changed.{row_placed, stored_wide, written}
+use Rattle.whole_solver.proofs.Changed.{changed_at, row_placed, stored_wide, written}
 use Rattle.whole_solver.proofs.Fronts.{line_of_front, signs_of_same}
 use Rattle.whole_solver.proofs.Standing.{flag_there, row_standing_short}
-use Rattle.whole_solver.proofs.Stored.{row_wide, set_again}
+use Rattle.whole_solver.proofs.Stored.{row_wide, put, stays}
 use Rattle.whole_solver.proofs.rows.Rows.widen_row.Goals as goal
 
 pub returns-then-index-clause-wide : goal.returns-then-index-clause-wide
@@ -20,14 +19,7 @@ returns-then-index-clause-written c =
     let i = c.args.i in
     let stored = c.requires.stored in
     written c.args.width i t _
-    (record {
-      flags = sym (set-get_or t.is_wide.items i false);
-      sizes = sym (set-get_or t.sizes.items i 0);
-      short = sym (set-get_or t.short.rows i []);
-      wide = sym (set-get_or t.wide.rows i []);
-      spare = refl;
-      width = refl;
-    })
+    (changed_at (stays refl) (stays refl) (stays refl) (stays refl) refl refl)
     (record { size = stored.size; short = stored.short; signs = stored.signs })
 
 pub returns-clause-line : goal.returns-clause-line
@@ -62,14 +54,7 @@ returns-clause-written c =
     let old = row_standing_short t i (flag_there t i c.index.result.now false c.requires.row c.index.ensures c.if-index.false) in
     let same : line_in w (row_at (set t.wide.rows i (refit t.wide.width z y)) i) ≡ line_in w (row_at t.short.rows i) = ap (line_in w) placed ∙ line_of_front w y x front in
     written w i t _
-    (record {
-      flags = set_again t.is_wide.items i true false;
-      sizes = sym (set-get_or t.sizes.items i 0);
-      short = sym (set-get_or t.short.rows i []);
-      wide = set_again t.wide.rows i _ [];
-      spare = refl;
-      width = refl;
-    })
+    (changed_at (put _ refl) (stays refl) (stays refl) (put _ refl) refl refl)
     (stored_wide w i _ c.requires.row (at_set_same t.is_wide.items i true false (omega arith))
     (subst (λ (l : Line). line_size l ≤ size_at t i) (sym same) (subst (λ (s : List ℤ). line_size (line_in w s) ≤ size_at t i) old c.requires.stored.size))
     (subst (λ (s : List ℤ). HasSigns w x s) (sym placed) (signs_of_same w x y (sym front))))

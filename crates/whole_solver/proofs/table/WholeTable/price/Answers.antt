@@ -18,7 +18,7 @@ fraction-requires-clause-number g c =
     let fits : FitsSigned w128 z = search rules in
     let inside : k + 1 < length row = omega (arith, c.requires.place, t.columns, t.objective_width, t.objective.numbers.ok, t.labels.ok) in
     let number : to_z w128 (of_z w128 z) ≡ number_at (line_in (width_of t) row).numbers k = to_z-of_z w128 z fits ∙ c.index.ensures ∙ sym (get_or_default row (k + 1) (pos 0) z inside) ∙ sym (in_line (width_of t) row k c.requires.place) in
-    subst (λ (v : ℤ). unsigned_abs v ≤ unsigned_abs g.N.Exact.LIMIT) (sym number) (c.requires.within.objective.sizes k)
+    subst (λ (v : ℤ). unsigned_abs v ≤ unsigned_abs g.N.Exact.LIMIT) (sym number) (c.requires.within.objective.line.sizes k)
 
 pub fraction-requires-clause-denominator : goal.fraction-requires-clause-denominator
 fraction-requires-clause-denominator g c =
@@ -28,7 +28,7 @@ fraction-requires-clause-denominator g c =
     let fits : FitsSigned w128 z = search rules in
     let inside : 0 < length row = omega (arith, t.columns, t.objective_width, t.objective.numbers.ok) in
     let below : c.unsigned_abs.result ≡ unsigned_abs (number_at row 0) = c.unsigned_abs.ensures.value ∙ ap unsigned_abs (to_z-of_z w128 z fits ∙ c.index-2.ensures ∙ sym (get_or_default row 0 (pos 0) z inside)) in
-    let line = c.requires.within.objective in
+    let line = c.requires.within.objective.line in
     (subst (λ (d : ℕ). 0 < d) (sym below) line.positive, subst (λ (d : ℕ). d ≤ unsigned_abs g.N.Exact.LIMIT) (sym below) line.below)
 
 pub returns : goal.returns

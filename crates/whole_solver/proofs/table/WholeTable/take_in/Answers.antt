@@ -6,9 +6,10 @@ use Rattle.table_run.proofs.Listed.{listed_count}
 use Rattle.compact_table.proofs.Filling.{numbers_last}
 use Rattle.compact_table.specs.SparseRows.{lists_of}
 use Rattle.compact_table.proofs.Parts.{length-rows, rows_long}
-use Rattle.equal_runs.specs.Lines.{IsLine, line_size, taken_in, table_taken_in, widest}
+use Rattle.equal_runs.specs.Lines.{taken_in, table_taken_in, widest}
 use Rattle.equal_runs.specs.WholeRunning.{first_whole_table}
 use Rattle.whole_solver.specs.declared.objective.Objective.{Objective}
+use Rattle.whole_solver.specs.Eliminating.{IsKept}
 use Rattle.whole_solver.specs.Rows.{line_in, lines_in}
 use Rattle.whole_solver.specs.Stored.{AreStored, rows_in}
 use Rattle.whole_solver.specs.Tables.{table_of, width_of}
@@ -50,8 +51,7 @@ loop-i-preserved g c =
       rows = ap (λ (k : ℕ). lines_in k (rows_in new.rows)) wide ∙ ap (lines_in w) h.rows ∙ taken_more w lists (rows_in old.rows) h.row i low inv.rows line;
       objective = ap (λ (k : ℕ). line_in k new.objective.numbers.items) wide ∙ ap (λ (o : Objective). line_in w o.numbers.items) told.objective ∙ inv.objective;
       stored = λ limit high. subst (λ (k : ℕ). AreStored limit k new.rows) (sym wide) (told.stored limit c.if-not-take_row.false high (inv.stored limit high));
-      last = subst (λ (k : ℕ). IsLine widest k (line_in k new.objective.numbers.items)) (sym wide) (subst (λ (o : Objective). IsLine widest w (line_in w o.numbers.items)) (sym told.objective) inv.last);
-      size = subst (λ (k : ℕ). line_size (line_in k new.objective.numbers.items) ≤ new.objective.size) (sym wide) (subst (λ (o : Objective). line_size (line_in w o.numbers.items) ≤ o.size) (sym told.objective) inv.size);
+      last = subst (λ (k : ℕ). IsKept widest k new.objective.size (line_in k new.objective.numbers.items)) (sym wide) (subst (λ (o : Objective). IsKept widest w o.size (line_in w o.numbers.items)) (sym told.objective) inv.last);
       count = omega (arith, count, were, before);
       room = omega (arith, fits, room);
       line = omega (arith, inv.line, c.write_row.auto.row);
@@ -90,4 +90,4 @@ pub returns-clause-within : goal.returns-clause-within
 returns-clause-within g c limit done high =
     let inv = c.loop-i.invariant in
     let w = width_of c.loop-i.self in
-    record { rows = inv.stored limit high; objective = line_wider widest limit w _ high inv.last; size = inv.size }
+    record { rows = inv.stored limit high; objective = record { line = line_wider widest limit w _ high inv.last.line; size = inv.last.size } }

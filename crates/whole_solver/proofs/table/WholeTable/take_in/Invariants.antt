@@ -1,8 +1,9 @@
 use Rattle.std.proofs.Common.{◌≡◌, ◌+◌, ◌≤◌, [], ◌∷◌, ◌++◌, length, map, take, ℕ}
 use Rattle.exact_num.specs.Fraction.{negated}
 use Rattle.table_run.specs.Places.{fraction_zero, numbers}
-use Rattle.equal_runs.specs.Lines.{IsLine, line_size, taken_in, widest}
+use Rattle.equal_runs.specs.Lines.{taken_in, widest}
 use Rattle.compact_table.specs.SparseRows.{lists_of}
+use Rattle.whole_solver.specs.Eliminating.{IsKept}
 use Rattle.whole_solver.specs.Rows.{line_in, lines_in}
 use Rattle.whole_solver.specs.Stored.{AreStored, rows_in}
 use Rattle.whole_solver.specs.Tables.{width_of, room_of}
@@ -19,8 +20,7 @@ invariant-loop-i g l =
       rows : lines_in (width_of l.self) (rows_in l.self.rows) ≡ take l.i (map taken_in (lists_of f l.program));
       objective : line_in (width_of l.self) l.self.objective.numbers.items ≡ taken_in (map negated (map f l.program.costs.items) ++ fraction_zero ∷ []);
       stored : (limit : ℕ) → widest ≤ limit → AreStored limit (width_of l.self) l.self.rows;
-      last : IsLine widest (width_of l.self) (line_in (width_of l.self) l.self.objective.numbers.items);
-      size : line_size (line_in (width_of l.self) l.self.objective.numbers.items) ≤ l.self.objective.size;
+      last : IsKept widest (width_of l.self) l.self.objective.size (line_in (width_of l.self) l.self.objective.numbers.items);
       count : length l.self.rows.short.rows ≡ l.i;
       room : length l.program.ends.items ≤ room_of l.self;
       line : length l.line ≡ l.columns + 1;

@@ -6,8 +6,8 @@ use Rattle.whole_solver.specs.Tables.{width_of}
 use Rattle.whole_solver.proofs.Turned.{size_below}
 use Rattle.whole_solver.proofs.table.WholeTable.take_objective.Goals as goal
 
-pub returns-clause-size : goal.returns-clause-size
-returns-clause-size g c done =
+pub returns-clause-kept : goal.returns-clause-kept
+returns-clause-kept g c done =
     let w = width_of c.args.self.now in
     let numbers = c.args.self.now.objective.numbers in
     let row = c.take_line.new.row in
@@ -15,4 +15,5 @@ returns-clause-size g c done =
     let taken = c.as_slice.ensures.value ∙ take_past c.args.self.now.line.len row (drop (length row) c.args.self.now.line.items) (c.take_line.auto.row ∙ c.as_mut_slice.ensures.len) in
     let is : take numbers.len (out ++ drop (length out) numbers.items) ≡ row = take_past numbers.len out (drop (length out) numbers.items) (c.widen.auto.out ∙ c.as_mut_slice-2.ensures.len) ∙ c.widen.ensures ∙ taken in
     let line = subst (λ (k : ℕ). IsLine widest k (line_in k row)) c.requires.width (c.take_line.ensures.within c.if-not-take_line.false) in
-    size_below widest w _ (subst (λ (zs : List ℤ). IsLine widest w (line_in w zs)) (sym is) line)
+    let there = subst (λ (zs : List ℤ). IsLine widest w (line_in w zs)) (sym is) line in
+    record { line = there; size = size_below widest w _ there }

@@ -18,7 +18,7 @@ pub pivot-requires-clause-pivot : goal.pivot-requires-clause-pivot
 pivot-requires-clause-pivot c =
     let t = c.list_column-count.new.self in
     let same : length t.basics.items ≡ length (rows_in t.rows) = omega (arith, t.count, t.basics.ok, rows_count t.rows.is_wide.items t.rows.short.rows t.rows.wide.rows) in
-    pivot_there c.args.c c.in-Some.r t.labels.items t.basics.items (rows_in t.rows) t.objective.numbers.items same (sym c.leaving.ensures ∙ c.in-Some.is)
+    pivot_there c.args.c c.in-Some.r t.labels.items t.basics.items (rows_in t.rows) (omega (arith, c.requires.column, c.list_column-count.ensures.shape.columns)) same (sym c.leaving.ensures ∙ c.in-Some.is)
 
 pub pivot-requires-clause-within : goal.pivot-requires-clause-within
 pivot-requires-clause-within c = c.list_column-count.ensures.within c.args.limit c.requires.within
