@@ -38,7 +38,8 @@ fn point_numbers(value: &Value) -> bool
     has_at(value, "state", are_entries) && has_fraction(value, "weight")
 }
 
-fn are_points(value: &Value) -> bool
+/// Whether the texts of a measure's points are numbers. The value has their shape.
+pub fn are_points(value: &Value) -> bool
     ensures { result ≡ list_passes point_is (view value.now) }
 {
     is_list(value, point_numbers)
@@ -68,7 +69,8 @@ fn are_nodes(value: &Value) -> bool
     is_list(value, node_numbers)
 }
 
-fn cover_numbers(value: &Value) -> bool
+/// Whether the texts of a cover's multipliers are numbers. The value has its shape.
+pub fn cover_numbers(value: &Value) -> bool
     ensures { result ≡ cover_is (view value.now) }
 {
     is_word(value, "line") || are_nodes(value)

@@ -108,7 +108,8 @@ fn point_shape(value: &Value) -> bool
     has_members(value, 2) && has_at(value, "state", is_state) && has_text(value, "weight")
 }
 
-fn are_points(value: &Value) -> bool
+/// Whether the value is a list of points of a measure: a state and a weight each.
+pub fn are_points(value: &Value) -> bool
     ensures { result ≡ list_passes point_is (view value.now) }
 {
     is_list(value, point_shape)
@@ -138,7 +139,8 @@ fn are_nodes(value: &Value) -> bool
     is_list(value, node_shape)
 }
 
-fn cover_shape(value: &Value) -> bool
+/// Whether the value is the word "line" or a list of nodes.
+pub fn cover_shape(value: &Value) -> bool
     ensures { result ≡ cover_is (view value.now) }
 {
     is_word(value, "line") || are_nodes(value)

@@ -37,7 +37,8 @@ fn fraction_of_parts(above: &[u8], below: Option<&[u8]>) -> Option<Frac128>
     Frac128::from_parts(numerator, denominator as i128)
 }
 
-fn fraction_from(value: &Value) -> Option<Frac128>
+/// The fraction of a text, where its parts are within their ranges.
+pub fn fraction_from(value: &Value) -> Option<Frac128>
     ensures { result ≡ fraction_found (view value.now) }
 {
     let text = value.as_str()?;
@@ -109,8 +110,8 @@ pub fn state_at(alloc: Global, value: &Value, key: &str) -> Result<Option<State>
     Ok(State::from_entries(entries.as_slice()))
 }
 
-// The points of a measure.
-struct PointReader;
+/// Reads a point of a measure.
+pub struct PointReader;
 
 impl ItemReader for PointReader {
     type Item = Weighted;
@@ -212,7 +213,8 @@ fn cover_from(alloc: Global, value: &Value) -> Result<Option<Cover>, AllocError>
     Ok(Some(Cover::Tree(tree)))
 }
 
-fn cover_at(alloc: Global, value: &Value) -> Result<Option<Cover>, AllocError>
+/// The cover at the key "cover": the word "line", or a tree's nodes.
+pub fn cover_at(alloc: Global, value: &Value) -> Result<Option<Cover>, AllocError>
     ensures { IfOk result (λ o. o ≡ take_at (codes "cover") cover_found (view value.now)) }
 {
     match value.get("cover") {

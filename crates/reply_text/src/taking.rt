@@ -106,8 +106,8 @@ pub fn order_at(value: &Value) -> Option<u64>
     natural_at(value, 1, MAX_ORDER, "order")
 }
 
-// The items of the list at a key.
-fn items_at<'a>(value: &'a Value, key: &str) -> Option<&'a [Value]>
+/// The items of the list at a key.
+pub fn items_at<'a>(value: &'a Value, key: &str) -> Option<&'a [Value]>
     ensures { option_map (λ items. items_view items.now) result
         ≡ items_found key.now (view value.now) }
 {
