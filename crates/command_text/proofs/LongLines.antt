@@ -11,7 +11,7 @@ use Rattle.form.specs.declared.orders.Side.TheVariants.{Buy, Sell}
 use Rattle.command_text.specs.declared.asked.Fault.{Fault}
 use Rattle.command_text.specs.declared.asked.Fault.TheVariants.{Syntax}
 use Rattle.command_text.specs.declared.command.Command.{Command}
-use Rattle.command_text.specs.declared.ranges.TheConstants.{LEGS, HEAD, PRICED_QUANTITY}
+use Rattle.command_text.specs.declared.ranges.TheConstants.{BUNDLE_PRICE, BUNDLE_QUANTITY, LEGS, HEAD, PRICED_QUANTITY}
 use Rattle.command_text.specs.declared.numbers.NumberRead.{NumberRead}
 use Rattle.command_text.specs.declared.numbers.NumberRead.TheVariants.{NotNumber, Outside, Value}
 use Rattle.command_text.specs.Asked.{text_of, fault_in, natural_in, value_or_zero}
@@ -19,9 +19,10 @@ use Rattle.command_text.specs.Bundles.{side_in, fields_each, fault_or_syntax, bu
 use Rattle.command_text.specs.Fields.{first_of_many}
 use Rattle.command_text.specs.Numbers.{number_in, IsWithin as IsRead}
 use Rattle.command_text.specs.Trades.{balance_command, cancel_command, clear_command, deposit_command, market_command, open_command, settle_command, trade_command, with_some, withdraw_command}
-use Rattle.command_text.specs.Requests.{as_price, as_quote, book_request, close_request, margin_request, need_request, positions_request, price_request, quote_request, reopen_request, secure_request}
+use Rattle.command_text.specs.Requests.{as_price, as_quote, as_try, book_request, close_request, margin_request, need_request, positions_request, price_request, quote_request, reopen_request, secure_request, try_request}
 use Rattle.command_text.specs.Said.{as_command, said_by, said_by_fields}
 use Rattle.command_text.specs.Words.{word_among}
+use Rattle.command_text.specs.declared.requests.QuoteRequest.{QuoteRequest}
 use Rattle.command_text.specs.declared.requests.Request.{Request}
 use Rattle.command_text.specs.declared.words.LineWord.{LineWord}
 use Rattle.command_text.specs.declared.words.LineWord.TheVariants as word
@@ -116,6 +117,10 @@ exactly n few said small many = chosen (n == few) said (not_equal n few many sma
 from_to : (n low high : ℕ) {A : Type 0} (said : Result A Fault) → high ≤ 51 → 51 < n → (if nat_le low n && nat_le n high then said else Err Syntax) ≡ Err Syntax
 from_to n low high said small many = chosen (nat_le low n && nat_le n high) said (past n low high many small)
 
+no_try : (side : Option Side) (price quantity : ℕ) (said : Result QuoteRequest Fault) → said ≡ Err Syntax → with_some side (λ s. as_try s price quantity said) ≡ Err Syntax
+no_try None price quantity said is = refl
+no_try (Some side) price quantity said is = ap (as_try side price quantity) is
+
 same_by : (w : LineWord) (fields : List (List ℕ)) → said_by w (first_of_many fields) ≡ said_by w fields
 same_by word.Open fields = ap as_command (same_read open_command (λ f many. exactly (length f) 2 _ (omega arith) many) fields)
 same_by word.Deposit fields = ap as_command (same_read deposit_command (λ f many. exactly (length f) 3 _ (omega arith) many) fields)
@@ -130,6 +135,8 @@ same_by word.Settle fields = ap as_command (same_read settle_command (λ f many.
 same_by word.Balance fields = ap as_command (same_read balance_command (λ f many. exactly (length f) 2 _ (omega arith) many) fields)
 same_by word.Quote fields = same_read quote_request (λ f many. ap as_quote (from_to (length f) 6 13 _ (omega arith) many)) fields
 same_by word.Price fields = same_read price_request (λ f many. ap (as_price (natural_in f PRICED_QUANTITY)) (from_to (length f) 7 14 _ (omega arith) many)) fields
+same_by word.Try fields =
+    same_read try_request (λ f many. no_try (side_in (text_of f 4)) (natural_in f BUNDLE_PRICE) (natural_in f BUNDLE_QUANTITY) _ (from_to (length f) 9 16 _ (omega arith) many)) fields
 same_by word.Margin fields = same_read margin_request (λ f many. exactly (length f) 4 _ (omega arith) many) fields
 same_by word.Book fields = same_read book_request (λ f many. exactly (length f) 2 _ (omega arith) many) fields
 same_by word.Positions fields = same_read positions_request (λ f many. exactly (length f) 3 _ (omega arith) many) fields

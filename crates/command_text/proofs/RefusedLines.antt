@@ -18,17 +18,17 @@ use Rattle.command_text.specs.declared.words.LineWord.TheVariants as word
 use Rattle.form.specs.FormOf.{form_of}
 use Rattle.command_text.specs.Numbers.{number_in}
 use Rattle.command_text.specs.Options.{option_by}
-use Rattle.command_text.specs.Requests.{as_price, as_quote, option_request, propose_request, proposed_for, strike_at}
+use Rattle.command_text.specs.Requests.{as_price, as_quote, as_try, option_request, propose_request, proposed_for, strike_at, try_request}
 use Rattle.command_text.specs.Said.{as_command, proposed_in, said_by, said_by_fields, said_of}
 use Rattle.command_text.specs.Words.{word_among}
 use Rattle.command_text.specs.declared.command.Kind.{Kind}
 use Rattle.command_text.specs.declared.numbers.NumberRead.{NumberRead}
 use Rattle.command_text.specs.declared.numbers.NumberRead.TheVariants.{NotNumber, Outside, Value}
-use Rattle.command_text.specs.declared.ranges.TheConstants.{ACCOUNT, ANY_ACCOUNT, MARKET, AMOUNT, UNDERLYINGS, ORDER, BUDGET, SETTLE, LISTED, MARGIN_BUDGET, PRICED, PRICED_QUANTITY, QUOTED, BUNDLE_PRICE, BUNDLE_QUANTITY, STRIKE, PRICE, QUANTITY, TRADE, LEGS, HEAD, LEG}
+use Rattle.command_text.specs.declared.ranges.TheConstants.{ACCOUNT, ANY_ACCOUNT, MARKET, AMOUNT, UNDERLYINGS, ORDER, BUDGET, SETTLE, LISTED, MARGIN_BUDGET, PRICED, PRICED_QUANTITY, QUOTED, TRIED, BUNDLE_PRICE, BUNDLE_QUANTITY, STRIKE, PRICE, QUANTITY, TRADE, LEGS, HEAD, LEG}
 use Rattle.command_text.specs.Asked.{text_of, fault_in, fault_of, either_fault, natural_in, value_in, says_in}
 use Rattle.command_text.specs.Bundles.{side_in, kind_fault, leg_fault, has_leg, leg_fields, fault_at, weightless_at, legs_fault, legs_weightless, legs_size, too_many, bundle_fault, sized_command, fields_each, fault_or_syntax, bundle_command}
 use Rattle.command_text.specs.Fields.{fields_of_line}
-use Rattle.command_text.specs.Refused.{word_read, reads_in, Shape, weight_place, option_shape, trade_shape, or_else, leg_reads, leg_weight_place, legs_reads, legs_beyond, head_reads, is_unread, legs_shape, bundle_shape, shape_by, has_unread, first_outside, fault_by, fault_of_proposal, fault_of_said, fault_of_shape, fault_of_words, LinesAreRefused}
+use Rattle.command_text.specs.Refused.{word_read, reads_in, Shape, weight_place, option_shape, trade_shape, try_shape, or_else, leg_reads, leg_weight_place, legs_reads, legs_beyond, head_reads, is_unread, legs_shape, bundle_shape, shape_by, has_unread, first_outside, fault_by, fault_of_proposal, fault_of_said, fault_of_shape, fault_of_words, LinesAreRefused}
 use Rattle.command_text.specs.Trades.{unless, with_some, kind_in, is_weighted, weightless, weights_in, prices_in, trade_command}
 use Rattle.command_text.proofs.Bounds.{natural_between, one_asked}
 use Rattle.command_text.proofs.PlainSays.{either_none}
@@ -135,11 +135,11 @@ weightless_from : (place : ℕ) (fields : List (List ℕ)) → weightless place 
 weightless_from place fields =
     elim (is_weighted (weights_in fields place)) as (λ b. (if b then None else Some (Range place)) ≡ ranged (if b then None else Some (0 + place))) [ true ↦ refl | false ↦ ap (λ p. Some (Range p)) (sym (zero-add place)) ]
 
-option_is : (place : ℕ) (asked : List Asked) (fields : List (List ℕ)) → fault_of_said (option_request place asked fields) ≡ fault_of_shape (option_shape place asked fields)
-option_is place asked fields =
+option_is : (words place : ℕ) (asked : List Asked) (fields : List (List ℕ)) → fault_of_said (option_request words place asked fields) ≡ fault_of_shape (option_shape words place asked fields)
+option_is words place asked fields =
     let n = length fields in
     let kind = kind_in (text_of fields place) in
-    let front = take (n - 2) asked in
+    let front = take (n - words) asked in
     let reads = reads_in 0 front fields in
     let beyond = weight_place 0 fields (place + 2) in
     let fault = either_fault (fault_in 0 front fields) (weightless (place + 2) (weights_in fields (place + 2))) in
@@ -272,6 +272,27 @@ of_price : (quantity : ℕ) (said : Result QuoteRequest Fault) → fault_of_said
 of_price quantity (Ok quote) = refl
 of_price quantity (Err fault) = refl
 
+of_try : (side : Side) (price quantity : ℕ) (said : Result QuoteRequest Fault) → fault_of_said (as_try side price quantity said) ≡ fault_of_said said
+of_try side price quantity (Ok quote) = refl
+of_try side price quantity (Err fault) = refl
+
+-- a side that is read beside a shape
+with_side : (side : Option Side) (sized : Bool) (reads : List (ℕ × NumberRead)) (beyond : Option ℕ)
+    → either_fault (fault_of 4 (word_read side)) (fault_of_shape (record { sized = sized; reads = reads; beyond = beyond }))
+    ≡ fault_of_shape (record { sized = sized; reads = (4, word_read side) ∷ reads; beyond = beyond })
+with_side None true reads beyond = refl
+with_side None false reads beyond = refl
+with_side (Some side) sized reads beyond = refl
+
+try_is : (fields : List (List ℕ)) → fault_of_said (try_request fields) ≡ fault_of_shape (try_shape fields)
+try_is fields =
+    let side = side_in (text_of fields 4) in
+    let said = option_request 3 7 TRIED fields in
+    let shape = option_shape 3 7 TRIED fields in
+    with_word 4 side _ (fault_of_said said) (λ s. of_try s (natural_in fields BUNDLE_PRICE) (natural_in fields BUNDLE_QUANTITY) said)
+    ∙ ap (either_fault (fault_of 4 (word_read side))) (option_is 3 7 TRIED fields)
+    ∙ with_side side shape.sized shape.reads shape.beyond
+
 word_is_refused : (w : LineWord) (fields : List (List ℕ)) → fault_of_said (said_by w fields) ≡ fault_of_shape (shape_by w fields)
 word_is_refused word.Open fields = of_command _ (shape_by word.Open fields) (plain_is (length fields == 2) (ACCOUNT ∷ []) fields (command.Open (natural_in fields ACCOUNT)))
 word_is_refused word.Deposit fields = of_command _ (shape_by word.Deposit fields) (plain_is (length fields == 3) (ACCOUNT ∷ AMOUNT ∷ []) fields (command.Deposit (natural_in fields ACCOUNT) (natural_in fields AMOUNT)))
@@ -285,8 +306,9 @@ word_is_refused word.Clear fields = of_command _ (shape_by word.Clear fields) (p
 word_is_refused word.Settle fields =
     of_command _ (shape_by word.Settle fields) (plain_is (nat_le 3 (length fields) && nat_le (length fields) 10) (take (length fields - 1) SETTLE) fields (command.Settle (natural_in fields MARKET) (length fields - 2) (prices_in fields)))
 word_is_refused word.Balance fields = of_command _ (shape_by word.Balance fields) (plain_is (length fields == 2) (ANY_ACCOUNT ∷ []) fields (command.Balance (natural_in fields ANY_ACCOUNT)))
-word_is_refused word.Quote fields = of_quote (option_request 4 QUOTED fields) ∙ option_is 4 QUOTED fields
-word_is_refused word.Price fields = of_price (natural_in fields PRICED_QUANTITY) (option_request 5 PRICED fields) ∙ option_is 5 PRICED fields
+word_is_refused word.Quote fields = of_quote (option_request 2 4 QUOTED fields) ∙ option_is 2 4 QUOTED fields
+word_is_refused word.Price fields = of_price (natural_in fields PRICED_QUANTITY) (option_request 2 5 PRICED fields) ∙ option_is 2 5 PRICED fields
+word_is_refused word.Try fields = try_is fields
 word_is_refused word.Margin fields = plain_is (length fields == 4) (ACCOUNT ∷ LISTED ∷ MARGIN_BUDGET ∷ []) fields _
 word_is_refused word.Book fields = plain_is (length fields == 2) (MARKET ∷ []) fields _
 word_is_refused word.Positions fields = plain_is (length fields == 3) (ACCOUNT ∷ LISTED ∷ []) fields _

@@ -5,6 +5,7 @@ use Rattle.std.specs.List.{list_any}
 use Rattle.std.specs.Prelude.{position}
 use Rattle.std.specs.Str.{bytes_eq}
 use Rattle.std.proofs.lemmas.Slice.Eq.{bytes_eq-Decides}
+use Rattle.form.specs.declared.orders.Side.{Side}
 use Rattle.form.specs.declared.orders.Side.TheVariants.{Buy, Sell}
 use Rattle.command_text.specs.declared.asked.Fault.{Fault}
 use Rattle.command_text.specs.declared.asked.Fault.TheVariants.{Syntax}
@@ -12,7 +13,7 @@ use Rattle.command_text.specs.declared.command.Command.{Command}
 use Rattle.command_text.specs.declared.command.Body.TheVariants as body
 use Rattle.command_text.specs.declared.numbers.NumberRead.{NumberRead}
 use Rattle.command_text.specs.declared.numbers.NumberRead.TheVariants.{NotNumber, Outside, Value}
-use Rattle.command_text.specs.declared.ranges.TheConstants.{MARKET, PRICED, PRICED_QUANTITY, QUOTED}
+use Rattle.command_text.specs.declared.ranges.TheConstants.{BUNDLE_PRICE, BUNDLE_QUANTITY, MARKET, PRICED, PRICED_QUANTITY, QUOTED, TRIED}
 use Rattle.command_text.specs.declared.requests.QuoteRequest.{QuoteRequest}
 use Rattle.command_text.specs.declared.requests.Request.{Request}
 use Rattle.command_text.specs.declared.requests.Request.TheVariants as asks
@@ -20,11 +21,11 @@ use Rattle.command_text.specs.declared.words.LineWord.{LineWord}
 use Rattle.command_text.specs.declared.words.LineWord.TheVariants as word
 use Rattle.command_text.specs.declared.words.TheConstants.{RUN}
 use Rattle.command_text.specs.Asked.{natural_in, text_of}
-use Rattle.command_text.specs.Bundles.{bundle_command}
+use Rattle.command_text.specs.Bundles.{bundle_command, side_in}
 use Rattle.command_text.specs.Commands.{body_of_line, body_of_said}
 use Rattle.command_text.specs.Fields.{fields_of_line}
 use Rattle.command_text.specs.Numbers.{number_in}
-use Rattle.command_text.specs.Requests.{as_price, as_quote, option_request, propose_request, proposed_for, proposed_text}
+use Rattle.command_text.specs.Requests.{as_price, as_quote, as_try, option_request, propose_request, proposed_for, proposed_text}
 use Rattle.command_text.specs.Said.{as_command, proposed_in, said_by, said_by_fields, said_in, said_of}
 use Rattle.command_text.specs.Trades.{balance_command, cancel_command, clear_command, deposit_command, market_command, open_command, settle_command, trade_command, unless, with_some, withdraw_command}
 use Rattle.command_text.specs.Words.{is_propose, word_among, word_text}
@@ -44,6 +45,7 @@ is_for (asks.Command command) word.Settle = true
 is_for (asks.Command command) word.Balance = true
 is_for (asks.Quote request) word.Quote = true
 is_for (asks.Price request) word.Price = true
+is_for (asks.Try request) word.Try = true
 is_for (asks.Margin request) word.Margin = true
 is_for (asks.Book market) word.Book = true
 is_for (asks.Positions account market) word.Positions = true
@@ -71,6 +73,12 @@ module _ (request : Request) where
   by_price quantity (Ok quote) e =
       let same : asks.Price (record { quote = quote; quantity = quantity }) ≡ request = cc in subst (λ r. is_for r word.Price ≡ true) same refl
   by_price quantity (Err fault) e = absurd (cc)
+
+  by_try : (side : Option Side) (price quantity : ℕ) (said : Result QuoteRequest Fault) → Says (with_some side (λ s. as_try s price quantity said)) → is_for request word.Try ≡ true
+  by_try None price quantity said e = absurd (cc)
+  by_try (Some side) price quantity (Ok quote) e =
+      let same : asks.Try (record { quote = quote; side = side; price = price; quantity = quantity }) ≡ request = cc in subst (λ r. is_for r word.Try ≡ true) same refl
+  by_try (Some side) price quantity (Err fault) e = absurd (cc)
 
   by_test : (w : LineWord) (test : Bool) (fault : Option Fault) (asked : Request) → is_for asked w ≡ true → Says (if test then unless fault asked else Err Syntax) → is_for request w ≡ true
   by_test w true None asked is e = let same : asked ≡ request = cc in subst (λ r. is_for r w ≡ true) same is
@@ -102,8 +110,9 @@ module _ (request : Request) where
   by_word word.Clear fields e = by_command word.Clear (λ c. refl) (clear_command fields) e
   by_word word.Settle fields e = by_command word.Settle (λ c. refl) (settle_command fields) e
   by_word word.Balance fields e = by_command word.Balance (λ c. refl) (balance_command fields) e
-  by_word word.Quote fields e = by_quote (option_request 4 QUOTED fields) e
-  by_word word.Price fields e = by_price (natural_in fields PRICED_QUANTITY) (option_request 5 PRICED fields) e
+  by_word word.Quote fields e = by_quote (option_request 2 4 QUOTED fields) e
+  by_word word.Price fields e = by_price (natural_in fields PRICED_QUANTITY) (option_request 2 5 PRICED fields) e
+  by_word word.Try fields e = by_try (side_in (text_of fields 4)) (natural_in fields BUNDLE_PRICE) (natural_in fields BUNDLE_QUANTITY) (option_request 3 7 TRIED fields) e
   by_word word.Margin fields e = by_test word.Margin _ _ _ refl e
   by_word word.Book fields e = by_test word.Book _ _ _ refl e
   by_word word.Positions fields e = by_test word.Positions _ _ _ refl e
@@ -154,6 +163,7 @@ proposes word.Settle e = absurd (true≢false (sym e))
 proposes word.Balance e = absurd (true≢false (sym e))
 proposes word.Quote e = absurd (true≢false (sym e))
 proposes word.Price e = absurd (true≢false (sym e))
+proposes word.Try e = absurd (true≢false (sym e))
 proposes word.Margin e = absurd (true≢false (sym e))
 proposes word.Book e = absurd (true≢false (sym e))
 proposes word.Positions e = absurd (true≢false (sym e))
@@ -207,6 +217,7 @@ of_run c word.Settle is = refl
 of_run c word.Balance is = refl
 of_run c word.Quote is = absurd (true≢false (sym is))
 of_run c word.Price is = absurd (true≢false (sym is))
+of_run c word.Try is = absurd (true≢false (sym is))
 of_run c word.Margin is = absurd (true≢false (sym is))
 of_run c word.Book is = absurd (true≢false (sym is))
 of_run c word.Positions is = absurd (true≢false (sym is))

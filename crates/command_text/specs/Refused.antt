@@ -10,7 +10,7 @@ use Rattle.command_text.specs.declared.words.LineWord.{LineWord}
 use Rattle.command_text.specs.declared.words.LineWord.TheVariants as word
 use Rattle.command_text.specs.declared.numbers.NumberRead.{NumberRead}
 use Rattle.command_text.specs.declared.numbers.NumberRead.TheVariants.{NotNumber, Outside, Value}
-use Rattle.command_text.specs.declared.ranges.TheConstants.{ACCOUNT, ANY_ACCOUNT, MARKET, AMOUNT, UNDERLYINGS, ORDER, BUDGET, TRADE, SETTLE, BUNDLE_QUANTITY, LEGS, HEAD, LEG, LISTED, MARGIN_BUDGET, PRICED, QUOTED}
+use Rattle.command_text.specs.declared.ranges.TheConstants.{ACCOUNT, ANY_ACCOUNT, MARKET, AMOUNT, UNDERLYINGS, ORDER, BUDGET, TRADE, SETTLE, BUNDLE_QUANTITY, LEGS, HEAD, LEG, LISTED, MARGIN_BUDGET, PRICED, QUOTED, TRIED}
 use Rattle.form.specs.declared.limits.TheConstants.{MAX_OPTIONS}
 use Rattle.command_text.specs.Asked.{text_of, says_in, natural_in}
 use Rattle.command_text.specs.Bundles.{side_in, has_leg, leg_fields, legs_size, fields_each}
@@ -97,13 +97,17 @@ bundle_shape fields =
     if natural_in fields LEGS == 0 then record { sized = nat_le 7 (length fields); reads = head_reads fields; beyond = None }
     else legs_shape (fields_each (length fields - 7) (natural_in fields LEGS)) fields
 
--- an option whose kind is at a place, behind what else is asked
-abbrev pub option_shape : ℕ → List Asked → List (List ℕ) → Shape
-option_shape place asked fields = record {
+-- an option whose kind is at a place, behind what else is asked. So many of the fields are no numbers
+abbrev pub option_shape : ℕ → ℕ → List Asked → List (List ℕ) → Shape
+option_shape words place asked fields = record {
   sized = nat_le (place + 2) (length fields) && nat_le (length fields) (place + 9);
-  reads = (place, word_read (kind_in (text_of fields place))) ∷ reads_in 0 (take (length fields - 2) asked) fields;
+  reads = (place, word_read (kind_in (text_of fields place))) ∷ reads_in 0 (take (length fields - words) asked) fields;
   beyond = weight_place 0 fields (place + 2);
 }
+
+-- the same of an order, with its SIDE
+abbrev pub try_shape : List (List ℕ) → Shape
+try_shape fields = let option : Shape = option_shape 3 7 TRIED fields in record option { reads = (4, word_read (side_in (text_of fields 4))) ∷ option.reads }
 
 -- by the word. That of a proposal allows no number of fields
 abbrev pub shape_by : LineWord → List (List ℕ) → Shape
@@ -118,8 +122,9 @@ shape_by word.Cancel fields = plain_shape 3 (ACCOUNT ∷ ORDER ∷ []) fields
 shape_by word.Clear fields = plain_shape 3 (MARKET ∷ BUDGET ∷ []) fields
 shape_by word.Settle fields = settle_shape fields
 shape_by word.Balance fields = plain_shape 2 (ANY_ACCOUNT ∷ []) fields
-shape_by word.Quote fields = option_shape 4 QUOTED fields
-shape_by word.Price fields = option_shape 5 PRICED fields
+shape_by word.Quote fields = option_shape 2 4 QUOTED fields
+shape_by word.Price fields = option_shape 2 5 PRICED fields
+shape_by word.Try fields = try_shape fields
 shape_by word.Margin fields = plain_shape 4 (ACCOUNT ∷ LISTED ∷ MARGIN_BUDGET ∷ []) fields
 shape_by word.Book fields = plain_shape 2 (MARKET ∷ []) fields
 shape_by word.Positions fields = plain_shape 3 (ACCOUNT ∷ LISTED ∷ []) fields

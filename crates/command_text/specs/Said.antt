@@ -12,7 +12,7 @@ use Rattle.command_text.specs.declared.words.LineWord.TheVariants as word
 use Rattle.command_text.specs.Asked.{text_of}
 use Rattle.command_text.specs.Bundles.{bundle_command}
 use Rattle.command_text.specs.Fields.{fields_of_line}
-use Rattle.command_text.specs.Requests.{book_request, close_request, margin_request, need_request, positions_request, price_request, propose_request, proposed_text, quote_request, reopen_request, secure_request}
+use Rattle.command_text.specs.Requests.{book_request, close_request, margin_request, need_request, positions_request, price_request, propose_request, proposed_text, quote_request, reopen_request, secure_request, try_request}
 use Rattle.command_text.specs.Trades.{balance_command, cancel_command, clear_command, deposit_command, market_command, open_command, settle_command, trade_command, with_some, withdraw_command}
 use Rattle.command_text.specs.Words.{is_propose, word_among}
 
@@ -35,6 +35,7 @@ said_by word.Settle fields = as_command (settle_command fields)
 said_by word.Balance fields = as_command (balance_command fields)
 said_by word.Quote fields = quote_request fields
 said_by word.Price fields = price_request fields
+said_by word.Try fields = try_request fields
 said_by word.Margin fields = margin_request fields
 said_by word.Book fields = book_request fields
 said_by word.Positions fields = positions_request fields

@@ -2,7 +2,7 @@
 use Rattle.std.specs.Prelude.{ℕ, List, [], ◌∷◌, codes, Bool, true, false, Option, Some, None, if◌then◌else◌}
 use Rattle.std.specs.Str.{bytes_eq}
 use Rattle.command_text.specs.declared.words.LineWord.{LineWord}
-use Rattle.command_text.specs.declared.words.LineWord.TheVariants.{Open, Deposit, Withdraw, Market, Buy, Sell, Bundle, Cancel, Clear, Settle, Balance, Quote, Price, Margin, Book, Positions, Secure, Need, Close, Reopen, Propose}
+use Rattle.command_text.specs.declared.words.LineWord.TheVariants.{Open, Deposit, Withdraw, Market, Buy, Sell, Bundle, Cancel, Clear, Settle, Balance, Quote, Price, Try, Margin, Book, Positions, Secure, Need, Close, Reopen, Propose}
 
 abbrev pub word_text : LineWord → List ℕ
 word_text Open = codes "open"
@@ -18,6 +18,7 @@ word_text Settle = codes "settle"
 word_text Balance = codes "balance"
 word_text Quote = codes "quote"
 word_text Price = codes "price"
+word_text Try = codes "try"
 word_text Margin = codes "margin"
 word_text Book = codes "book"
 word_text Positions = codes "positions"

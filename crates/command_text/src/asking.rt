@@ -3,16 +3,20 @@ ghost use Rattle.std.specs.Prelude.{◌≡◌, ◌≤◌, ◌<◌, ◌+◌, ◌=
 ghost use Rattle.std.specs.List.{All};
 ghost use Rattle.command_text.specs.Asked.{IsAsked};
 ghost use Rattle.command_text.specs.Numbers.{IsWithin};
-ghost use Rattle.command_text.specs.Requests.{book_request, close_request, margin_request, need_request, option_request, positions_request, price_request, propose_request, proposed_for, proposed_text, quote_request, reopen_request, secure_request, strike_at};
+ghost use Rattle.command_text.specs.Requests.{book_request, close_request, margin_request, need_request, option_request, positions_request, price_request, propose_request, proposed_for, proposed_text, quote_request, reopen_request, secure_request, strike_at, try_request};
 
 use crate::asked::{Asked, Fault, first_fault, first_of, natural, text_at, value};
+use crate::bundles::side;
 use crate::numbers::{NumberRead, number};
 use crate::options::option_form;
 use crate::plain::one_number;
 use crate::ranges::{
-    ACCOUNT, BUDGET, LISTED, MARGIN_BUDGET, MARKET, PRICED, PRICED_QUANTITY, QUOTED, STRIKE,
+    ACCOUNT, BUDGET, BUNDLE_PRICE, BUNDLE_QUANTITY, LISTED, MARGIN_BUDGET, MARKET, PRICED,
+    PRICED_QUANTITY, QUOTED, STRIKE, TRIED,
 };
-use crate::requests::{MarginRequest, PriceRequest, ProposeRequest, QuoteRequest, Request};
+use crate::requests::{
+    MarginRequest, PriceRequest, ProposeRequest, QuoteRequest, Request, TryRequest,
+};
 use crate::trades::{all_zero, kind, weights};
 
 // The strike at a place.
@@ -23,12 +27,18 @@ fn strike_at(place: u8) -> Asked
 }
 
 // What the fields of a line ask of an option whose kind is at a place, and whose strike and weights
-// follow it.
-fn option_request(fields: &[&[u8]], place: u8, asked: &[Asked]) -> Result<QuoteRequest, Fault>
-    requires place { (4 ≤ place) × (place ≤ 5) }
+// follow it. So many of the fields are no numbers.
+fn option_request(
+    fields: &[&[u8]],
+    words: usize,
+    place: u8,
+    asked: &[Asked],
+) -> Result<QuoteRequest, Fault>
+    requires words { words ≤ 3 }
+    requires place { (4 ≤ place) × (place ≤ 7) }
     requires asked { All (λ a. IsAsked 0 a) asked.now }
-    requires all { length asked.now ≡ place + 7 }
-    ensures { result ≡ option_request place asked.now (map (λ f. f.now) fields.now) }
+    requires all { length asked.now + words ≡ place + 9 }
+    ensures { result ≡ option_request words place asked.now (map (λ f. f.now) fields.now) }
 {
     let count = fields.len();
     let before = usize::from(place) + 1;
@@ -40,7 +50,7 @@ fn option_request(fields: &[&[u8]], place: u8, asked: &[Asked]) -> Result<QuoteR
     };
     let weights = weights(fields, place + 2);
     match first_of(
-        first_fault(fields, &asked[..count - 2], 0),
+        first_fault(fields, &asked[..count - words], 0),
         all_zero(&weights, place + 2),
     ) {
         Some(fault) => Err(fault),
@@ -60,17 +70,32 @@ fn option_request(fields: &[&[u8]], place: u8, asked: &[Asked]) -> Result<QuoteR
 pub(crate) fn quote_request(fields: &[&[u8]]) -> Result<Request, Fault>
     ensures { result ≡ quote_request (map (λ f. f.now) fields.now) }
 {
-    let quote = option_request(fields, 4, &QUOTED)?;
+    let quote = option_request(fields, 2, 4, &QUOTED)?;
     Ok(Request::Quote(quote))
 }
 
 pub(crate) fn price_request(fields: &[&[u8]]) -> Result<Request, Fault>
     ensures { result ≡ price_request (map (λ f. f.now) fields.now) }
 {
-    let quote = option_request(fields, 5, &PRICED)?;
+    let quote = option_request(fields, 2, 5, &PRICED)?;
     Ok(Request::Price(PriceRequest {
         quote,
         quantity: natural(fields, PRICED_QUANTITY) as u32,
+    }))
+}
+
+pub(crate) fn try_request(fields: &[&[u8]]) -> Result<Request, Fault>
+    ensures { result ≡ try_request (map (λ f. f.now) fields.now) }
+{
+    let Some(side) = side(text_at(fields, 4)) else {
+        return Err(Fault::Syntax);
+    };
+    let quote = option_request(fields, 3, 7, &TRIED)?;
+    Ok(Request::Try(TryRequest {
+        quote,
+        side,
+        price: natural(fields, BUNDLE_PRICE),
+        quantity: natural(fields, BUNDLE_QUANTITY) as u32,
     }))
 }
 

@@ -1,7 +1,7 @@
 //! What a line asks, over all words.
 
 use crate::command::Command;
-use form::Form;
+use form::{Form, Side};
 
 /// At which prices one further option would raise the greatest surplus of a market, in clears of at
 /// most `budget` units each.
@@ -21,6 +21,19 @@ pub struct PriceRequest {
     /// The market, the budget and the option.
     pub quote: QuoteRequest,
     /// The quantity.
+    pub quantity: u32,
+}
+
+/// What would be filled of a further order, if the market were cleared with it at the end.
+#[derive(Clone, Copy, Debug, PartialEq, Eq)]
+pub struct TryRequest {
+    /// The market, the budget and the option.
+    pub quote: QuoteRequest,
+    /// Whether the order buys or sells.
+    pub side: Side,
+    /// Its limit price in ticks.
+    pub price: u64,
+    /// Its quantity.
     pub quantity: u32,
 }
 
@@ -55,6 +68,8 @@ pub enum Request {
     Quote(QuoteRequest),
     /// The prices of so many options.
     Price(PriceRequest),
+    /// The fill of a further order.
+    Try(TryRequest),
     /// A margin.
     Margin(MarginRequest),
     /// The live orders of a market.

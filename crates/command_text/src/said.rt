@@ -9,7 +9,7 @@ ghost use Rattle.command_text.specs.Within.{IsInside, RequestIsWithin};
 use crate::asked::{Fault, text_at};
 use crate::asking::{
     book_request, close_request, margin_request, need_request, positions_request, price_request,
-    propose_request, proposed_text, quote_request, reopen_request, secure_request,
+    propose_request, proposed_text, quote_request, reopen_request, secure_request, try_request,
 };
 use crate::bundles::bundle;
 use crate::command::Command;
@@ -52,6 +52,7 @@ fn said_by(
         LineWord::Balance => as_command(balance(fields)),
         LineWord::Quote => quote_request(fields),
         LineWord::Price => price_request(fields),
+        LineWord::Try => try_request(fields),
         LineWord::Margin => margin_request(fields),
         LineWord::Book => book_request(fields),
         LineWord::Positions => positions_request(fields),

@@ -6,7 +6,7 @@ ghost use Rattle.command_text.specs.Words.{is_propose, word_among, word_text};
 
 use LineWord::{
     Balance, Book, Bundle, Buy, Cancel, Clear, Close, Deposit, Margin, Market, Need, Open,
-    Positions, Price, Propose, Quote, Reopen, Secure, Sell, Settle, Withdraw,
+    Positions, Price, Propose, Quote, Reopen, Secure, Sell, Settle, Try, Withdraw,
 };
 
 /// The word of a line.
@@ -25,6 +25,7 @@ pub enum LineWord {
     Balance,
     Quote,
     Price,
+    Try,
     Margin,
     Book,
     Positions,
@@ -51,9 +52,9 @@ pub const GUARDED: [LineWord; 12] = [
 ];
 
 /// Those that `serve` takes.
-pub const SERVED: [LineWord; 21] = [
+pub const SERVED: [LineWord; 22] = [
     Open, Deposit, Withdraw, Market, Buy, Sell, Bundle, Cancel, Clear, Settle, Balance, Quote,
-    Price, Margin, Book, Positions, Secure, Need, Close, Reopen, Propose,
+    Price, Try, Margin, Book, Positions, Secure, Need, Close, Reopen, Propose,
 ];
 
 impl LineWord {
@@ -75,6 +76,7 @@ impl LineWord {
             Balance => b"balance",
             Quote => b"quote",
             Price => b"price",
+            Try => b"try",
             Margin => b"margin",
             Book => b"book",
             Positions => b"positions",

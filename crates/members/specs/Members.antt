@@ -103,6 +103,7 @@ abbrev pub is_over : MembersState → ExchangeState → ℕ → Request → Bool
 is_over members exchange session (asks.Command command) = not (is_operator session) && uses_up members exchange session command
 is_over members exchange session (asks.Quote request) = false
 is_over members exchange session (asks.Price request) = false
+is_over members exchange session (asks.Try request) = false
 is_over members exchange session (asks.Margin request) = false
 is_over members exchange session (asks.Book market) = false
 is_over members exchange session (asks.Positions account market) = false

@@ -28,6 +28,7 @@ sender_of word.Settle = Operator
 sender_of word.Balance = OwnerOrOperator
 sender_of word.Quote = Nobody
 sender_of word.Price = Nobody
+sender_of word.Try = Nobody
 sender_of word.Margin = Nobody
 sender_of word.Book = All
 sender_of word.Positions = OwnerOrOperator
@@ -41,6 +42,7 @@ sender_of word.Propose = All
 abbrev pub asker_of : LineWord → Whom
 asker_of word.Quote = All
 asker_of word.Price = All
+asker_of word.Try = All
 asker_of word.Margin = OwnerOrOperator
 asker_of word.Need = OwnerOrOperator
 asker_of word.Open = sender_of word.Open
@@ -95,6 +97,7 @@ abbrev pub word_of : Request → LineWord
 word_of (asks.Command said) = command_word said
 word_of (asks.Quote request) = word.Quote
 word_of (asks.Price request) = word.Price
+word_of (asks.Try request) = word.Try
 word_of (asks.Margin request) = word.Margin
 word_of (asks.Book market) = word.Book
 word_of (asks.Positions account market) = word.Positions
@@ -121,6 +124,7 @@ abbrev pub account_of : Request → Option ℕ
 account_of (asks.Command said) = command_account said
 account_of (asks.Quote request) = None
 account_of (asks.Price request) = None
+account_of (asks.Try request) = None
 account_of (asks.Margin request) = Some request.account
 account_of (asks.Book market) = None
 account_of (asks.Positions account market) = Some account

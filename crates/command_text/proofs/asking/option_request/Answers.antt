@@ -22,9 +22,9 @@ returns-in-Some-first_of c =
     let place = c.args.place in
     let asked = c.args.asked.now in
     let size : length texts ≡ length c.args.fields.now = length-map c.args.fields.now (λ f. f.now) in
-    request_says place asked texts c.in-Some.kind c.weights-weights.result (Some c.in-Some-first_of.fault) (omega (arith, size)) (omega (arith, size))
+    request_says c.args.words place asked texts c.in-Some.kind c.weights-weights.result (Some c.in-Some-first_of.fault) (omega (arith, size)) (omega (arith, size))
     (c.in-Some.ensures ∙ ap kind_in c.text_at.ensures) c.weights-weights.ensures
-    (c.in-Some-first_of.ensures ∙ (λ i. either_fault (c.first_fault.ensures i) (c.all_zero.ensures i)) ∙ ap (λ n. either_fault (fault_in 0 (take (n - 2) asked) texts) (weightless (place + 2) c.weights-weights.result)) (sym size))
+    (c.in-Some-first_of.ensures ∙ (λ i. either_fault (c.first_fault.ensures i) (c.all_zero.ensures i)) ∙ ap (λ n. either_fault (fault_in 0 (take (n - c.args.words) asked) texts) (weightless (place + 2) c.weights-weights.result)) (sym size))
 
 pub returns-in-None : goal.returns-in-None
 returns-in-None c =
@@ -36,6 +36,6 @@ returns-in-None c =
     to_z-of_z w64 c.value.result (record { sfits = omega arith }) ∙ c.value.ensures.value ∙ ap (value_in texts) c.strike_at.ensures in
     (λ i. Ok (request_for (c.natural.ensures.value i) (c.natural-in-None.ensures.value i) (c.option_form.ensures i)))
     ∙ (λ i. Ok (request_for (natural_in texts MARKET) (natural_in texts BUDGET) (form_of (option_by c.in-Some.kind (strike i) (take (sym size i - (c.from-before.ensures i + 1)) c.weights-weights.result)))))
-    ∙ request_says place asked texts c.in-Some.kind c.weights-weights.result None (omega (arith, size)) (omega (arith, size))
+    ∙ request_says c.args.words place asked texts c.in-Some.kind c.weights-weights.result None (omega (arith, size)) (omega (arith, size))
     (c.in-Some.ensures ∙ ap kind_in c.text_at.ensures) c.weights-weights.ensures
-    (c.in-None.ensures ∙ (λ i. either_fault (c.first_fault.ensures i) (c.all_zero.ensures i)) ∙ ap (λ n. either_fault (fault_in 0 (take (n - 2) asked) texts) (weightless (place + 2) c.weights-weights.result)) (sym size))
+    (c.in-None.ensures ∙ (λ i. either_fault (c.first_fault.ensures i) (c.all_zero.ensures i)) ∙ ap (λ n. either_fault (fault_in 0 (take (n - c.args.words) asked) texts) (weightless (place + 2) c.weights-weights.result)) (sym size))
