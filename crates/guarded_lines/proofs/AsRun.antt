@@ -51,6 +51,7 @@ said_told number state heard (Ok (asks.Margin request)) is =
     inr (told_text number request (told_of (run_in state request.account request.market request.budget)) (first_of (margin_refusals state request)), refl)
 said_told number state heard (Ok (asks.Quote request)) is = inr (inl (refusal.Syntax, refl), refl)
 said_told number state heard (Ok (asks.Price request)) is = inr (inl (refusal.Syntax, refl), refl)
+said_told number state heard (Ok (asks.Try request)) is = inr (inl (refusal.Syntax, refl), refl)
 said_told number state heard (Ok (asks.Book market)) is = inr (inl (refusal.Syntax, refl), refl)
 said_told number state heard (Ok (asks.Positions account market)) is = inr (inl (refusal.Syntax, refl), refl)
 said_told number state heard (Ok (asks.Secure account)) is = inr (inl (refusal.Syntax, refl), refl)

@@ -10,6 +10,6 @@ mod replies;
 mod told;
 mod withdrawals;
 
-pub use answers::{answer, answer_said};
+pub use answers::{answer, answer_said, tell};
 pub use replies::{GuardedReply, reply_to};
 pub use told::{ToldMargin, print_margin};

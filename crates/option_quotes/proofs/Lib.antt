@@ -8,3 +8,4 @@ pub mod Walks
 pub mod Beside
 pub mod ProbesAlong
 pub mod Found
+pub mod TriedOrders

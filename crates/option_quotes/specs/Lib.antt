@@ -5,4 +5,5 @@ pub mod ByProbes
 pub mod Implied
 pub mod Shown
 pub mod Thresholds
+pub mod Tried
 pub mod Laws

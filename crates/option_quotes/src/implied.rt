@@ -131,7 +131,7 @@ fn side_price(
 }
 
 /// The further order of so many bundles.
-fn asked(form: &Form, side: Side, quantity: u32) -> Order
+pub(crate) fn asked(form: &Form, side: Side, quantity: u32) -> Order
     ensures { result ≡ asked form.now side quantity }
 {
     Order {

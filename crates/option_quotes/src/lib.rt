@@ -11,8 +11,10 @@ pub mod prices;
 mod probes;
 pub mod quotes;
 mod quoting;
+pub mod trying;
 
 pub use implied::implied_prices;
 pub use prices::{MarketPrices, SidePrice};
 pub use quotes::Quoted;
 pub use quoting::quote;
+pub use trying::{Tried, try_order};

@@ -63,6 +63,7 @@ said_told : (number : ℕ) (state : ExchangeState) (line : List ℕ) (said : Res
 said_told number state line (Ok (asks.Command c)) is = inl (ap (λ (b : Body). written_line number (reply_to state b)) (sym (command_to_run QUOTES line c is)))
 said_told number state line (Ok (asks.Quote request)) is = quote_told number state (body_of_line line) request
 said_told number state line (Ok (asks.Price request)) is = absurd (true≢false (sym (asked_by_word QUOTES line (asks.Price request) is)))
+said_told number state line (Ok (asks.Try request)) is = inr (inl (refusal.Syntax, refl), refl)
 said_told number state line (Ok (asks.Margin request)) is = inr (inl (refusal.Syntax, refl), refl)
 said_told number state line (Ok (asks.Book market)) is = inr (inl (refusal.Syntax, refl), refl)
 said_told number state line (Ok (asks.Positions account market)) is = inr (inl (refusal.Syntax, refl), refl)

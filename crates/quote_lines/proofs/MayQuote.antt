@@ -1,5 +1,5 @@
 -- What a request meets: a batch that may be quoted, or its first refusal.
-use Rattle.std.proofs.Common.{◌≡◌, ℕ, ◌+◌, ◌≤◌, ◌<◌, [], ◌∷◌, Bool, true, false, not, nat_eq, nat_le, Option, Some, None, is_some, if◌then◌else◌, refl, sym, ap, subst, ◌∙◌, arith}
+use Rattle.std.proofs.Common.{◌≡◌, ◌+◌, ◌≤◌, ◌<◌, [], ◌∷◌, Bool, true, false, not, nat_eq, nat_le, Option, Some, None, Result, Ok, Err, is_some, if◌then◌else◌, refl, sym, ap, subst, ◌∙◌, arith}
 use Rattle.std.specs.Option.{option_map, option_map_or}
 use Rattle.std.proofs.lemmas.Bool.Decides.{nat_tests}
 use Rattle.std.proofs.lemmas.List.Elements.{All-weaker}
@@ -19,16 +19,13 @@ use Rattle.exchange_core.specs.declared.refusal.Refusal.{Refusal}
 use Rattle.exchange_core.specs.declared.refusal.Refusal.TheVariants.{Settled, WeightCount, BookFull, TooMany}
 use Rattle.exchange_core.specs.ExchangeState.{ExchangeState}
 use Rattle.exchange_core.specs.Kept.{IsKept}
-use Rattle.exchange_core.specs.Reply.{refused_with}
 use Rattle.exchange_core.specs.Step.{batch_in}
 use Rattle.option_quotes.specs.Thresholds.{MayBeQuoted}
 use Rattle.command_text.specs.declared.requests.QuoteRequest.{QuoteRequest}
 use Rattle.lists.specs.Refusals.{first_of}
 use Rattle.lists.proofs.FirstRefusal.{first_behind, first_in_front}
-use Rattle.quote_lines.specs.declared.replies.QuotesReply.{QuotesReply}
-use Rattle.quote_lines.specs.declared.replies.QuotesReply.TheVariants.{Plain}
 use Rattle.quote_lines.specs.Refusals.{info_refusals, quote_refusals}
-use Rattle.quote_lines.specs.Replies.{asked_reply, told_for}
+use Rattle.quote_lines.specs.Replies.{asked_batch}
 
 -- ---- a batch that may be quoted
 none_of : (a b c : Bool) → first_of ((a, Settled) ∷ (b, WeightCount) ∷ (c, BookFull) ∷ []) ≡ None → (a ≡ false) × (b ≡ false) × (c ≡ false)
@@ -71,29 +68,27 @@ pub may_quote : (state : ExchangeState) (request : QuoteRequest) (batch : Batch)
 may_quote state request batch kept listed is none =
     subst (λ (b : Batch). MayBeQuoted b request.form) (batch_is (market_of state.book request.market) batch _ is) (live_may state request kept listed none)
 
--- ---- the reply
+-- ---- the batch that is found
 -- by the number of batches, where nothing that is told of the market refuses
 by_batches : (state : ExchangeState) (request : QuoteRequest) → first_of (info_refusals (info_in state.book request.market) request) ≡ None
     → first_of (quote_refusals state.book request) ≡ (if nat_le MAX_BATCHES state.book.finished then Some TooMany else None)
 by_batches state request none =
     first_behind (info_refusals (info_in state.book request.market) request) ((nat_le MAX_BATCHES state.book.finished, TooMany) ∷ []) none
 
-replied : ExchangeState → QuoteRequest → Option ℕ → Option Refusal → QuotesReply
-replied state request quantity refused = option_map_or (λ refusal. Plain (refused_with refusal)) refused (told_for (batch_in state request.market) request quantity)
+abbrev found_by : ExchangeState → QuoteRequest → Option Refusal → Result Batch Refusal
+found_by state request refused = option_map_or (λ refusal. Err refusal) refused (Ok (batch_in state request.market))
 
-pub reply_refused : (state : ExchangeState) (request : QuoteRequest) (quantity : Option ℕ) (refusal : Refusal) → Some refusal ≡ first_of (info_refusals (info_in state.book request.market) request)
-    → Plain (refused_with refusal) ≡ asked_reply state request quantity
-unfolding replied
-reply_refused state request quantity refusal is =
-    sym (ap (replied state request quantity) (first_in_front (info_refusals (info_in state.book request.market) request) ((nat_le MAX_BATCHES state.book.finished, TooMany) ∷ []) refusal (sym is)))
+pub batch_refused : (state : ExchangeState) (request : QuoteRequest) (refusal : Refusal) → Some refusal ≡ first_of (info_refusals (info_in state.book request.market) request)
+    → Err refusal ≡ asked_batch state request
+batch_refused state request refusal is =
+    sym (ap (found_by state request) (first_in_front (info_refusals (info_in state.book request.market) request) ((nat_le MAX_BATCHES state.book.finished, TooMany) ∷ []) refusal (sym is)))
 
-pub reply_told : (state : ExchangeState) (request : QuoteRequest) (quantity : Option ℕ) (batch : Batch) → first_of (info_refusals (info_in state.book request.market) request) ≡ None
-    → option_map batch_of (market_of state.book request.market) ≡ Some batch → state.book.finished < MAX_BATCHES → told_for batch request quantity ≡ asked_reply state request quantity
-unfolding replied
-reply_told state request quantity batch none is few =
+pub batch_found : (state : ExchangeState) (request : QuoteRequest) (batch : Batch) → first_of (info_refusals (info_in state.book request.market) request) ≡ None
+    → option_map batch_of (market_of state.book request.market) ≡ Some batch → state.book.finished < MAX_BATCHES → Ok batch ≡ asked_batch state request
+batch_found state request batch none is few =
     let room : nat_le MAX_BATCHES state.book.finished ≡ false = grind (arith, nat_tests, few) in
-    ap (λ (b : Batch). told_for b request quantity) (sym (batch_is (market_of state.book request.market) batch _ is))
-    ∙ sym (ap (replied state request quantity) (by_batches state request none ∙ ap (λ (t : Bool). if t then Some TooMany else None) room))
+    ap (λ (b : Batch). Ok b) (sym (batch_is (market_of state.book request.market) batch _ is))
+    ∙ sym (ap (found_by state request) (by_batches state request none ∙ ap (λ (t : Bool). if t then Some TooMany else None) room))
 
 -- the refusal of a batch of a market that is there and trades
 trades : (info : Option MarketInfo) (request : QuoteRequest) (full : Bool) → first_of (info_refusals info request) ≡ None
@@ -103,12 +98,24 @@ trades (Some info) request full none =
     let tests = none_of info.settled (not (nat_eq request.form.count (info.underlyings + 1))) (is_full info) none in
     ap (λ (t : Bool). if t then Some book.Settled else (if full then Some book.TooMany else None)) tests.0
 
-pub reply_too_many : (state : ExchangeState) (request : QuoteRequest) (quantity : Option ℕ) → first_of (info_refusals (info_in state.book request.market) request) ≡ None
-    → Some book.TooMany ≡ first_of (batch_refusals state.book request.market) → Plain (refused_with TooMany) ≡ asked_reply state request quantity
-unfolding replied
-reply_too_many state request quantity none told =
+pub batch_too_many : (state : ExchangeState) (request : QuoteRequest) → first_of (info_refusals (info_in state.book request.market) request) ≡ None
+    → Some book.TooMany ≡ first_of (batch_refusals state.book request.market) → Err TooMany ≡ asked_batch state request
+batch_too_many state request none told =
     let full : Bool = nat_le MAX_BATCHES state.book.finished in
     let first = told ∙ trades (info_in state.book request.market) request full none in
-    let P : Bool → Type 0 = λ t. Some book.TooMany ≡ (if t then Some book.TooMany else None) → Plain (refused_with TooMany) ≡ replied state request quantity (if t then Some TooMany else None) in
+    let P : Bool → Type 0 = λ t. Some book.TooMany ≡ (if t then Some book.TooMany else None) → Err TooMany ≡ found_by state request (if t then Some TooMany else None) in
     (elim full as P [ true ↦ λ h. refl | false ↦ λ h. absurd (cc) ]) first
-    ∙ sym (ap (replied state request quantity) (by_batches state request none))
+    ∙ sym (ap (found_by state request) (by_batches state request none))
+
+-- ---- what is told of what is found
+-- where nothing refuses
+pub told_of_found : {A B : Type 0} (tells : B → A) (refuses : Refusal → A) (refused : Option Refusal) (own found : B) → Ok found ≡ option_map_or (λ refusal. Err refusal) refused (Ok own)
+    → tells found ≡ option_map_or refuses refused (tells own)
+told_of_found tells refuses None own found is = let same : found ≡ own = cc in ap tells same
+told_of_found tells refuses (Some first) own found is = absurd (cc)
+
+-- or of the refusal
+pub told_of_refusal : {A B : Type 0} (refuses : Refusal → A) (refused : Option Refusal) (own : B) (first : Refusal) (told : A) → Err first ≡ option_map_or (λ refusal. Err refusal) refused (Ok own)
+    → refuses first ≡ option_map_or refuses refused told
+told_of_refusal refuses None own first told is = absurd (cc)
+told_of_refusal refuses (Some other) own first told is = let same : first ≡ other = cc in ap refuses same

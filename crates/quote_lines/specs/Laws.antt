@@ -6,6 +6,8 @@ use Rattle.form.specs.declared.orders.Side.{Side}
 use Rattle.form.specs.declared.orders.Side.TheVariants.{Buy, Sell}
 use Rattle.option_quotes.specs.Implied.{asked}
 use Rattle.option_quotes.specs.Probes.{Probe, first_unmarked, further, probes}
+use Rattle.market_laws.specs.Limits.{at_price}
+use Rattle.option_quotes.specs.Tried.{IsTried}
 use Rattle.option_quotes.specs.Thresholds.{IsUnfound, NeverRaisesGreatest, RaisesGreatestFrom}
 use Rattle.exchange_core.specs.ExchangeState.{ExchangeState}
 use Rattle.exchange_core.specs.Kept.{IsKept}
@@ -14,15 +16,16 @@ use Rattle.exchange_lines.specs.LineSteps.{AnswersAsRun}
 use Rattle.exchange_lines.specs.Promises.{OutputTells}
 use Rattle.quote_lines.specs.declared.prices.QuotedPrice.{QuotedPrice}
 use Rattle.quote_lines.specs.declared.prices.QuotedPrice.TheVariants.{At, Never, Unmarked}
-use Rattle.command_text.specs.Within.{IsPriceWithin, IsQuoteWithin}
+use Rattle.command_text.specs.Within.{IsPriceWithin, IsQuoteWithin, IsTryWithin}
 use Rattle.command_text.specs.declared.requests.PriceRequest.{PriceRequest}
 use Rattle.command_text.specs.declared.requests.QuoteRequest.{QuoteRequest}
 use Rattle.command_text.specs.declared.requests.Request.TheVariants as asks
+use Rattle.command_text.specs.declared.requests.TryRequest.{TryRequest}
 use Rattle.quote_lines.specs.Quoted.{priced_line, quoted_line}
 use Rattle.lists.specs.Refusals.{first_of}
 use Rattle.quote_lines.specs.Output.{IsQuoteText, quotes_line, written_reply}
 use Rattle.quote_lines.specs.Refusals.{quote_refusals}
-use Rattle.quote_lines.specs.Replies.{quotes_reply_to}
+use Rattle.quote_lines.specs.Replies.{quotes_reply_to, tried_for}
 
 -- each line is answered as in a run, or by a refusal or by what is quoted, and then the exchange is
 -- as it was
@@ -85,3 +88,15 @@ abbrev pub PricedLinesAreThresholds : Type 0
 PricedLinesAreThresholds =
     (number : ℕ) (state : ExchangeState) (request : PriceRequest) → IsKept state → IsPriceWithin request → first_of (quote_refusals state.book request.quote) ≡ None
     → TellsPrices number state request (written_reply number (quotes_reply_to state (Ok (asks.Price request))))
+
+-- ---- what is told of a further order
+-- the order that is tried: behind the live ones, of no trader
+abbrev pub tried_order : TryRequest → Order
+tried_order request = at_price (asked request.quote.form request.side request.quantity) request.price
+
+-- a request that meets no refusal is answered by what a clear of the live orders with this one at
+-- their end tells: its fills cover its surplus, and that of the order is from 0 to its quantity
+abbrev pub TriedOrdersAreFilled : Type 0
+TriedOrdersAreFilled =
+    (state : ExchangeState) (request : TryRequest) → IsKept state → IsTryWithin request → first_of (quote_refusals state.book request.quote) ≡ None
+    → IsTried (batch_in state request.quote.market) (tried_order request) (tried_for (batch_in state request.quote.market) request)

@@ -1,9 +1,10 @@
 -- The reply to a line that may ask for something, and the exchange after it.
-use Rattle.std.specs.Prelude.{ℕ, List, Option, Some, None, Result, Ok}
+use Rattle.std.specs.Prelude.{ℕ, List, Option, Some, None, Result, Ok, Err}
 use Rattle.std.specs.Option.{option_map_or}
 use Rattle.form.specs.declared.orders.Batch.{Batch}
 use Rattle.form.specs.declared.orders.Side.{Side}
 use Rattle.form.specs.declared.orders.Side.TheVariants.{Buy, Sell}
+use Rattle.exchange_core.specs.declared.refusal.Refusal.{Refusal}
 use Rattle.exchange_core.specs.ExchangeState.{ExchangeState}
 use Rattle.exchange_core.specs.Reply.{refused_with}
 use Rattle.exchange_core.specs.Step.{batch_in}
@@ -17,11 +18,14 @@ use Rattle.option_quotes.specs.declared.prices.SidePrice.{SidePrice}
 use Rattle.option_quotes.specs.declared.prices.SidePrice.TheVariants as side
 use Rattle.option_quotes.specs.Implied.{prices_of}
 use Rattle.option_quotes.specs.Probes.{further}
+use Rattle.option_quotes.specs.Tried.{tried_of}
+use Rattle.option_quotes.specs.declared.trying.Tried.{Tried}
 use Rattle.command_text.specs.Commands.{body_of_said}
 use Rattle.command_text.specs.declared.asked.Fault.{Fault}
 use Rattle.command_text.specs.declared.requests.QuoteRequest.{QuoteRequest}
 use Rattle.command_text.specs.declared.requests.Request.{Request}
 use Rattle.command_text.specs.declared.requests.Request.TheVariants as asks
+use Rattle.command_text.specs.declared.requests.TryRequest.{TryRequest}
 use Rattle.quote_lines.specs.declared.prices.QuotedPrice.{QuotedPrice}
 use Rattle.quote_lines.specs.declared.prices.QuotedPrice.TheVariants as told
 use Rattle.quote_lines.specs.Quoted.{priced_line, quoted_line}
@@ -70,6 +74,22 @@ asked_reply state request quantity =
     option_map_or (λ refusal. Plain (refused_with refusal)) (first_of (quote_refusals state.book request))
     (told_for (batch_in state request.market) request quantity)
 
+-- ---- a further order
+-- the live orders of the market of a request, or the first refusal that it meets
+abbrev pub asked_batch : ExchangeState → QuoteRequest → Result Batch Refusal
+asked_batch state request =
+    option_map_or (λ refusal. Err refusal) (first_of (quote_refusals state.book request)) (Ok (batch_in state request.market))
+
+-- what a clear of the batch would tell of the order at its end
+abbrev pub tried_for : Batch → TryRequest → Tried
+tried_for batch request = tried_of batch request.quote.form request.side request.quantity request.price request.quote.budget
+
+-- of the live orders of its market; the order stands behind them
+abbrev pub tried_reply : ExchangeState → TryRequest → Result Tried Refusal
+tried_reply state request =
+    option_map_or (λ refusal. Err refusal) (first_of (quote_refusals state.book request.quote)) (Ok (tried_for (batch_in state request.quote.market) request))
+
+-- ---- a line
 -- the reply to what a line says, and the exchange after it: a request changes nothing
 abbrev pub quotes_reply_to : ExchangeState → Result Request Fault → QuotesReply × ExchangeState
 quotes_reply_to state (Ok (asks.Quote request)) = (asked_reply state request None, state)

@@ -1,5 +1,5 @@
 //! Laws over the definitions: each is the contract of a function that does nothing.
-ghost use Rattle.quote_lines.specs.Laws.{PricedLinesAreThresholds, QuotedLinesAreThresholds, QuotesAnswerAsRun, QuotesTellAnswers};
+ghost use Rattle.quote_lines.specs.Laws.{PricedLinesAreThresholds, QuotedLinesAreThresholds, QuotesAnswerAsRun, QuotesTellAnswers, TriedOrdersAreFilled};
 
 /// Each line is answered as in a run, or by a refusal or by what is quoted, and then the exchange is
 /// as it was.
@@ -28,4 +28,11 @@ pub fn priced_lines_are_thresholds()
 /// quotes beside them.
 pub fn quotes_tell_answers()
     ensures { QuotesTellAnswers }
+{}
+
+/// What is told of an order that is tried is what a clear of the live orders with this one at their
+/// end tells: its fills cover its surplus, which is not below 0, and the fill of the order is from 0
+/// to its quantity.
+pub fn tried_orders_are_filled()
+    ensures { TriedOrdersAreFilled }
 {}

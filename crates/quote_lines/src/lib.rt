@@ -7,7 +7,9 @@ pub mod laws;
 mod prices;
 mod quoting;
 mod replies;
+mod trying;
 
-pub use answers::{answer, answer_said};
+pub use answers::{answer, tell};
 pub use prices::{QuotedPrice, print_priced, print_quoted};
 pub use replies::{QuotesReply, reply_to};
+pub use trying::tried_reply;

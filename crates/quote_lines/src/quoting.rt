@@ -6,7 +6,7 @@ ghost use Rattle.exchange_core.specs.Kept.{IsKept};
 ghost use Rattle.lists.specs.Refusals.{first_of};
 ghost use Rattle.option_quotes.specs.Thresholds.{MayBeQuoted};
 ghost use Rattle.command_text.specs.Within.{IsQuoteWithin};
-ghost use Rattle.quote_lines.specs.Replies.{asked_reply, price_of, priced_for, prices_told, quoted_for, quoted_price, side_told, told_for};
+ghost use Rattle.quote_lines.specs.Replies.{asked_batch, asked_reply, price_of, priced_for, prices_told, quoted_for, quoted_price, side_told, told_for};
 ghost use Rattle.quote_lines.specs.Refusals.{info_refusals};
 
 use crate::prices::QuotedPrice;
@@ -141,26 +141,40 @@ fn refused_by(info: Option<MarketInfo>, request: &QuoteRequest) -> Option<Refusa
     }
 }
 
-// What is told of a market which refuses nothing by what is told of it, or that there are as many
+// The live orders of a market which refuses nothing by what is told of it, or that there are as many
 // batches as there may be.
-fn asked_live(
-    alloc: Global,
+fn live_batch(
     exchange: &Exchange,
     request: &QuoteRequest,
-    quantity: Option<u32>,
-) -> Result<QuotesReply, AllocError>
+) -> Result<Result<Batch, Refusal>, AllocError>
     requires request { IsQuoteWithin request.now }
-    requires quantity { IfSome quantity (λ q. (1 ≤ q) × (q ≤ MAX_QUANTITY)) }
     requires kept { IsKept exchange.now }
     requires told { first_of
         (info_refusals (info_in exchange.now.book request.now.market) request.now) ≡ None }
-    ensures { IfOk result (λ reply. reply ≡ asked_reply exchange.now request.now quantity) }
+    ensures asked { IfOk result (λ found. found ≡ asked_batch exchange.now request.now) }
+    ensures may { IfOk result (λ found. IfOk found (λ batch. MayBeQuoted batch request.now.form)) }
 {
     match exchange.live(request.market) {
-        Ok(batch) => told_for(alloc, &batch, request, quantity),
-        Err(BookRefusal::TooMany) => Ok(QuotesReply::Plain(Refusal::TooMany.reply())),
+        Ok(batch) => Ok(Ok(batch)),
+        Err(BookRefusal::TooMany) => Ok(Err(Refusal::TooMany)),
         // The market is there and trades: what is left is want of memory.
         Err(_) => Err(AllocError),
+    }
+}
+
+/// The live orders of the market of a request, or the first refusal that it meets. The only error is
+/// want of memory.
+pub(crate) fn asked_batch(
+    exchange: &Exchange,
+    request: &QuoteRequest,
+) -> Result<Result<Batch, Refusal>, AllocError>
+    requires request { IsQuoteWithin request.now }
+    ensures asked { IfOk result (λ found. found ≡ asked_batch exchange.now request.now) }
+    ensures may { IfOk result (λ found. IfOk found (λ batch. MayBeQuoted batch request.now.form)) }
+{
+    match refused_by(exchange.info(request.market), request) {
+        Some(refusal) => Ok(Err(refusal)),
+        None => live_batch(exchange, request),
     }
 }
 
@@ -175,8 +189,8 @@ pub(crate) fn asked_reply(
     requires quantity { IfSome quantity (λ q. (1 ≤ q) × (q ≤ MAX_QUANTITY)) }
     ensures { IfOk result (λ reply. reply ≡ asked_reply exchange.now request.now quantity) }
 {
-    match refused_by(exchange.info(request.market), request) {
-        Some(refusal) => Ok(QuotesReply::Plain(refusal.reply())),
-        None => asked_live(alloc, exchange, request, quantity),
+    match asked_batch(exchange, request)? {
+        Ok(batch) => told_for(alloc, &batch, request, quantity),
+        Err(refusal) => Ok(QuotesReply::Plain(refusal.reply())),
     }
 }
