@@ -1,6 +1,10 @@
 mod CoverLists
 mod PlainCovers
-mod CheckedCovers
+mod CellLoops
+mod TakenCells
+mod SoundCells
+mod ReadCovers
+mod SoundCovers
 pub mod PlainProposals
 pub mod WrittenProposals
 mod SoundProposals

@@ -12,44 +12,37 @@ use Rattle.exact_num.specs.Tests.{is_not_below_zero}
 use Rattle.frac.specs.Range.{limit}
 use Rattle.frac.specs.Value.{fraction_of}
 use Rattle.frac.specs.declared.frac128.Frac128.{Frac128}
-use Rattle.cert_check.specs.declared.outcome.Claim.{Claim}
-use Rattle.cert_check.specs.declared.outcome.Mark.{Mark}
-use Rattle.cert_check.specs.declared.outcome.Mark.TheVariants as mark
 use Rattle.serde_json.specs.Data.{Data}
 use Rattle.serde_json.specs.Find.{as_bool, as_number, as_u64}
 use Rattle.limits.specs.declared.TheConstants.{MAX_ACCOUNT, MAX_MARKET, MAX_BATCHES}
-use Rattle.reply_print.specs.Within.{IsAccount, IsMarket, IsOrderNumber, IsBatchNumber, IsBatchWithin, IsMarkWithin, IsSmall}
+use Rattle.reply_print.specs.Within.{IsAccount, IsMarket, IsOrderNumber, IsBatchNumber, IsBatchWithin, IsSmall}
 use Rattle.reply_text.specs.BatchValues.{fraction_from, side_at, whole_from}
-use Rattle.reply_text.specs.OutcomeValues.{certificate_from, claim_from}
+use Rattle.reply_text.specs.OutcomeValues.{claim_from}
 use Rattle.reply_text.specs.ReplyValues.{account_at, market_at, batch_from, cleared_batch_from}
 use Rattle.reply_text.specs.Taking.{from_to, list_at, natural_at, take_at}
 use Rattle.reply_text.proofs.Sound.{Sound, any, after, mapped, either, where_true, at_key, list_sound, natural_sound, small_sound, from_sound}
-use Rattle.reply_text.proofs.SoundCleared.{IsBundleListed, IsClearedWithin, batch_sound, bundle_sound, certificate_sound, cleared_batch_sound}
+use Rattle.reply_text.proofs.SoundCleared.{IsBundleListed, IsClearedWithin, batch_sound, bundle_sound, cleared_batch_sound}
 use Rattle.form.specs.Between.{Between}
 use Rattle.proposal_text.specs.declared.replies.ProposalReply.{ProposalReply}
 use Rattle.proposal_text.specs.declared.replies.ProposalReply.TheVariants.{Book, Positions, Proposed, Stale, Unproved, Closed, Reopened, MarketIsClosed, MarketIsOpen, Account, Barred}
 use Rattle.proposal_text.specs.ReplyValues.{are_bounds, are_in_order, are_surpluses, book_from, do_rise, filled, fill_at, position_of, position_from, positions_from, proposed_from, bounded_of, bounded_with, stop_by_word, outcome_from, bounded_from, closed_from, reopened_from, failed_by_word, secured_with, secured_from, needs_with, needs_from, not_negative, part_at, stopped_by_word, tried_with, tried_from, bar_by, plain_refusal, refused_by, reply_by, rising}
-use Rattle.proposal_text.specs.Submissions.{proposal_of, proposal_from, order_number_from, few_numbers, order_numbers_at, submission_with, submission_from}
+use Rattle.proposal_text.specs.CoverReading.{proved_by}
+use Rattle.proposal_text.specs.Submissions.{proposal_from, order_number_from, few_numbers, order_numbers_at, submission_with, submission_from}
 use Rattle.proposal_text.specs.Within.{AreInOrder, AreRising, IsProposalWithin, IsSubmissionWithin, IsPositionWithin, IsBoundedWithin, IsProposalReplyWithin}
 use Rattle.proposal_text.specs.Needs.{IsNeedWithin, need_at, size_at}
 use Rattle.proposal_text.specs.declared.replies.AccountReply.TheVariants.{Uncovered}
 use Rattle.proposal_text.proofs.RisingNumbers.{rise_are}
+use Rattle.proposal_text.proofs.SoundCovers.{proved_sound}
 use Rattle.proposal_text.proofs.SoundNeeds.{need_sound, size_sound}
 use Rattle.reply_print.specs.Look.{number_at, word_at}
 
 -- ---- proposals
 
-under_sound : (claim : Claim) (fills : List Frac128) (m : Mark) → IsMarkWithin m → Sound IsProposalWithin (proposal_of claim fills m)
-under_sound claim fills (mark.Optimal cover measure) h = h
-under_sound claim fills (mark.Wide w) h = tt
-under_sound claim fills mark.Budget h = tt
-
 pub proposal_sound : (d : Data) → Sound IsProposalWithin (proposal_from d)
 proposal_sound d =
     after (λ x. ⊤) IsProposalWithin _ _ (any (claim_from d))
     (λ claim c. after (λ x. ⊤) IsProposalWithin _ _ (any (list_at (codes "fills") fraction_from d))
-    (λ fills f. after IsMarkWithin IsProposalWithin _ _ (at_key IsMarkWithin (codes "certificate") certificate_from d certificate_sound)
-    (λ m k. under_sound claim fills m k)))
+    (λ fills f. at_key IsProposalWithin (codes "certificate") (proved_by fills claim) d (proved_sound fills claim)))
 
 number_sound : (d : Data) → Sound IsOrderNumber (order_number_from d)
 number_sound d = after (λ n. ⊤) IsOrderNumber (from_to 1 MAX_ORDER) (option_and_then as_u64 (as_number d)) (any _) (λ n t. from_sound 1 MAX_ORDER n)

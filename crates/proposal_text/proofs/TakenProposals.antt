@@ -25,7 +25,6 @@ use Rattle.reply_print.specs.Look.{items_all, is_whole}
 use Rattle.reply_text.specs.BatchValues.{fraction_from, leg_from, order_from}
 use Rattle.reply_text.specs.ReplyValues.{batch_from, few_orders, cleared_batch_of}
 use Rattle.reply_text.specs.Taking.{items_map, list_at, take_at}
-use Rattle.reply_text.specs.OutcomeValues.{certificate_from}
 use Rattle.reply_text.proofs.FiveTests.{IsTaken, paired}
 use Rattle.reply_text.proofs.Taken.{natural_taken, whole_taken, whole_number, fraction_taken, fraction_number, items_pass, items_taken}
 use Rattle.reply_text.proofs.TakenBatches.{IsWrittenOrder, order_is_order, order_taken, leg_taken, leg_is_leg, bundle_made_of, legs_of, side_is, side_taken, len_within}
@@ -50,9 +49,10 @@ use Rattle.reply_print.specs.ReplyPieces.{position_piece}
 use Rattle.proposal_text.specs.Pieces.{submission_piece, stop_word, failed_word, tried_mark, proposal_piece}
 use Rattle.proposal_text.specs.ReplyShapes.{position_shape, position_numbers, is_stop, is_failed, is_tried_mark}
 use Rattle.proposal_text.specs.ReplyValues.{are_in_order, filled, position_of, position_from, rising, stop_by_word, bounded_of, failed_by_word, secured_with, not_negative, stopped_by_word, tried_with, proposal_tests}
-use Rattle.proposal_text.specs.Submissions.{proposal_from, proposal_of, order_number_from, few_numbers, submission_with, submission_shape, proposal_numbers, submission_from}
+use Rattle.proposal_text.specs.CoverReading.{proved_by}
+use Rattle.proposal_text.specs.Submissions.{proposal_from, order_number_from, few_numbers, submission_with, submission_shape, proposal_numbers, submission_from}
 use Rattle.proposal_text.specs.Within.{AreInOrder, AreRising, IsSubmissionWithin, IsPositionWithin, IsProposalLineWithin}
-use Rattle.proposal_text.proofs.CheckedCovers.{proof_is, proof_numbered, proof_taken}
+use Rattle.proposal_text.proofs.ReadCovers.{proof_is, proof_numbered, proof_taken}
 use Rattle.proposal_text.proofs.RisingNumbers.{are_rise}
 use Rattle.proposal_text.proofs.TakenNeeds.{held_taken, is_number, need_is, need_taken}
 
@@ -61,7 +61,7 @@ use Rattle.proposal_text.proofs.TakenNeeds.{held_taken, is_number, need_is, need
 -- from the parts of any value
 pub parts_taken : (d : Data) (p : Proposal) → list_at (codes "fills") fraction_from d ≡ Some p.fills → take_at (codes "liability") fraction_from d ≡ Some p.claim.liability
     → take_at (codes "surplus") fraction_from d ≡ Some p.claim.surplus
-    → option_and_then (proposal_of p.claim p.fills) (take_at (codes "certificate") certificate_from d) ≡ Some p → proposal_from d ≡ Some p
+    → take_at (codes "certificate") (proved_by p.fills p.claim) d ≡ Some p → proposal_from d ≡ Some p
 parts_taken d p f l s c = then_taken _ _ p.claim _ (claim_taken d p.claim l s) (then_taken _ _ p.fills _ f c)
 
 number_taken : (n : ℕ) → IsOrderNumber n → order_number_from (piece_data (natural n)) ≡ Some n

@@ -23,7 +23,7 @@ use Rattle.proposal_text.specs.declared.replies.ProposalReply.TheVariants.{Book,
 use Rattle.reply_print.specs.ReplyPieces.{position_piece, refused_with}
 use Rattle.proposal_text.specs.Pieces.{submission_piece, bounded_end, bounded_middle, account_piece, bar_number, bar_word, proposal_piece}
 use Rattle.proposal_text.specs.Within.{IsSubmissionWithin, IsPositionWithin, IsBoundedWithin, IsAccountReplyWithin, IsProposalLineWithin}
-use Rattle.proposal_text.proofs.CheckedCovers.{proof_written}
+use Rattle.proposal_text.proofs.ReadCovers.{proof_written}
 use Rattle.proposal_text.proofs.PlainProposals.{stop_plain, failed_plain, need_plain, mark_plain}
 
 pub submission_written : (s : Submission) → IsSubmissionWithin s → IsWritten 6 (submission_piece s)

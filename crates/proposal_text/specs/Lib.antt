@@ -1,5 +1,8 @@
 pub mod Needs
 pub mod CoverPieces
+pub mod CellRanges
+pub mod CellReading
+pub mod CoverReading
 pub mod Pieces
 pub mod Within
 pub mod Submissions

@@ -5,44 +5,35 @@ use Rattle.std.specs.Result.{result_ok}
 use Rattle.frac.specs.declared.frac128.Frac128.{Frac128}
 use Rattle.form.specs.declared.limits.TheConstants.{MAX_ORDER, MAX_ORDERS}
 use Rattle.cert_check.specs.declared.outcome.Claim.{Claim}
-use Rattle.cert_check.specs.declared.outcome.Mark.{Mark}
-use Rattle.cert_check.specs.declared.outcome.Mark.TheVariants.{Optimal, Wide, Budget}
 use Rattle.proposal_check.specs.declared.covers.Proposal.{Proposal}
-use Rattle.proposal_check.specs.Proposals.{proposal_by}
 use Rattle.serde_json.specs.Data.{Data}
 use Rattle.serde_json.specs.Find.{as_number, as_u64}
-use Rattle.reply_print.specs.ClearedShape.{certificate_shape}
 use Rattle.reply_print.specs.Look.{has_members, has_at, is_whole, is_text, is_list}
-use Rattle.reply_print.specs.NumberTexts.{certificate_numbers, is_fraction}
+use Rattle.reply_print.specs.NumberTexts.{is_fraction}
 use Rattle.reply_text.specs.BatchValues.{fraction_from}
-use Rattle.reply_text.specs.OutcomeValues.{certificate_from, claim_from}
+use Rattle.reply_text.specs.OutcomeValues.{claim_from}
 use Rattle.reply_text.specs.Taking.{from_to, list_at, take_at}
 use Rattle.reply_text.specs.Tests.{Tests, read_by}
 use Rattle.proposal_text.specs.declared.submissions.Submission.{Submission}
+use Rattle.proposal_text.specs.CoverReading.{proof_numbers, proof_shape, proved_by}
 use Rattle.proposal_text.specs.Pieces.{submission_text}
 use Rattle.proposal_text.specs.Within.{IsSubmissionWithin}
 
 -- certificate, fills, liability and surplus, of any object
 abbrev pub proposal_shape : Data → Bool
 proposal_shape d =
-    has_at (codes "certificate") certificate_shape d
+    has_at (codes "certificate") proof_shape d
     && (has_at (codes "fills") (is_list is_text) d && (has_at (codes "liability") is_text d && has_at (codes "surplus") is_text d))
 
 abbrev pub proposal_numbers : Data → Bool
 proposal_numbers d =
-    has_at (codes "certificate") certificate_numbers d
+    has_at (codes "certificate") proof_numbers d
     && (has_at (codes "fills") (is_list is_fraction) d && (has_at (codes "liability") is_fraction d && has_at (codes "surplus") is_fraction d))
-
--- the proposal of a certificate, which is that of the mark optimal
-abbrev pub proposal_of : Claim → List Frac128 → Mark → Option Proposal
-proposal_of claim fills (Optimal cover measure) = Some (proposal_by fills claim cover measure)
-proposal_of claim fills (Wide w) = None
-proposal_of claim fills Budget = None
 
 abbrev pub proposal_from : Data → Option Proposal
 proposal_from d =
     option_and_then (λ claim.
-    option_and_then (λ fills. option_and_then (proposal_of claim fills) (take_at (codes "certificate") certificate_from d))
+    option_and_then (λ fills. take_at (codes "certificate") (proved_by fills claim) d)
     (list_at (codes "fills") fraction_from d))
     (claim_from d)
 

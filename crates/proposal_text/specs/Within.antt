@@ -16,6 +16,7 @@ use Rattle.proposal_check.specs.declared.covers.ProposalCover.{ProposalCover}
 use Rattle.proposal_check.specs.declared.covers.ProposalCover.TheVariants.{Checked, Match, Cells}
 use Rattle.settlement.specs.declared.position.Position.{Position}
 use Rattle.reply_print.specs.Within.{IsLine, IsAccount, IsMarket, IsSmall, IsOrderNumber, IsBatchNumber, IsBatchWithin, IsCoverWithin, IsPointWithin}
+use Rattle.proposal_text.specs.CellRanges.{AreCellsWithin}
 use Rattle.proposal_text.specs.declared.submissions.Submission.{Submission}
 use Rattle.proposal_text.specs.declared.replies.BoundedOutcome.{BoundedOutcome}
 use Rattle.proposal_text.specs.declared.replies.AccountReply.{AccountReply}
@@ -24,11 +25,10 @@ use Rattle.proposal_text.specs.declared.replies.ProposalReply.{ProposalReply}
 use Rattle.proposal_text.specs.declared.replies.ProposalReply.TheVariants.{Book, Positions, Proposed, Bounded, Stale, Unproved, Closed, Reopened, MarketIsClosed, MarketIsOpen, Account, Tried, Barred}
 use Rattle.proposal_text.specs.Needs.{IsNeedWithin}
 
--- no line has a match or cells yet
 abbrev pub IsProposalCoverWithin : ProposalCover → Type 0
 IsProposalCoverWithin (Checked cover) = IsCoverWithin cover
-IsProposalCoverWithin Match = ⊥
-IsProposalCoverWithin (Cells nodes) = ⊥
+IsProposalCoverWithin Match = ⊤
+IsProposalCoverWithin (Cells nodes) = AreCellsWithin nodes
 
 -- a cover and a measure of numbers of 128 bits
 abbrev pub IsProposalWithin : Proposal → Type 0

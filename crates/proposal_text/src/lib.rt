@@ -4,6 +4,10 @@
 
 mod account_lines;
 mod bounded_lines;
+mod cells;
+mod cells_shape;
+mod cells_values;
+mod cover_reading;
 mod cover_text;
 pub mod laws;
 pub mod needs;

@@ -7,21 +7,20 @@ ghost use Rattle.reply_text.specs.Tests.{read_by, value_by};
 ghost use Rattle.reply_text.specs.declared.faults.LineFault.TheVariants.{Memory};
 ghost use Rattle.proposal_text.specs.Pieces.{submission_piece, submission_text};
 ghost use Rattle.proposal_text.specs.declared.submissions.Submission.{Submission};
-ghost use Rattle.proposal_text.specs.Submissions.{IsTextOf, order_number_from as number_found, order_numbers_at as numbers_found, proposal_from as proposal_found, proposal_of, proposal_numbers as numbers_are, proposal_shape as shape_is, submission_from as submission_found, submission_of, submission_shape as submission_is, submission_tests};
+ghost use Rattle.proposal_text.specs.Submissions.{IsTextOf, order_number_from as number_found, order_numbers_at as numbers_found, proposal_from as proposal_found, proposal_numbers as numbers_are, proposal_shape as shape_is, submission_from as submission_found, submission_of, submission_shape as submission_is, submission_tests};
 
+use crate::cover_reading::{proof_numbers, proof_shape, proved_by};
 use crate::cover_text::add_proof;
 use crate::submissions::Submission;
-use cert_check::{Claim, Fills, Mark};
 use form::{MAX_ORDER, MAX_ORDERS};
-use frac::Frac128;
-use proposal_check::{Proposal, ProposalCover};
+use proposal_check::Proposal;
 use proposals::OrderNumbers;
-use reply_print::cleared_numbers::{are_fills, certificate_numbers, has_fraction};
-use reply_print::cleared_shape::{are_texts, certificate_shape};
+use reply_print::cleared_numbers::{are_fills, has_fraction};
+use reply_print::cleared_shape::are_texts;
 use reply_print::look::{has_members, has_text, is_list, is_whole};
 use reply_print::printing::{add_field, add_items, add_key, append};
 use reply_text::LineFault;
-use reply_text::certificate_values::{certificate_at, claim_at, fills_at};
+use reply_text::certificate_values::{claim_at, fills_at};
 use reply_text::reading::json_value;
 use reply_text::taking::{ItemReader, from_to, list_at};
 use reply_text::tested::is_same;
@@ -57,7 +56,7 @@ pub fn print_submission(alloc: Global, submission: &Submission) -> Result<Vec<u8
 pub(crate) fn proposal_shape(value: &Value) -> bool
     ensures { result ≡ shape_is (view value.now) }
 {
-    matches!(value.get("certificate"), Some(certificate) if certificate_shape(certificate))
+    matches!(value.get("certificate"), Some(certificate) if proof_shape(certificate))
         && matches!(value.get("fills"), Some(fills) if are_texts(fills))
         && has_text(value, "liability")
         && has_text(value, "surplus")
@@ -67,7 +66,7 @@ pub(crate) fn proposal_shape(value: &Value) -> bool
 pub(crate) fn proposal_numbers(value: &Value) -> bool
     ensures { result ≡ numbers_are (view value.now) }
 {
-    matches!(value.get("certificate"), Some(certificate) if certificate_numbers(certificate))
+    matches!(value.get("certificate"), Some(certificate) if proof_numbers(certificate))
         && matches!(value.get("fills"), Some(fills) if are_fills(fills))
         && has_fraction(value, "liability")
         && has_fraction(value, "surplus")
@@ -87,22 +86,6 @@ fn submission_shape(value: &Value) -> bool
         && matches!(value.get("orders"), Some(orders) if are_wholes(orders))
 }
 
-// The proposal of this claim and these fills under the certificate of a mark.
-fn proposal_under(claim: Claim, fills: Vec<Frac128>, mark: Mark) -> Option<Proposal>
-    ensures { result ≡ proposal_of claim fills.items mark }
-{
-    match mark {
-        Mark::Optimal { cover, measure } => Some(Proposal {
-            fills: Fills::from_vec(fills),
-            claim,
-            cover: ProposalCover::Checked(cover),
-            measure,
-        }),
-        Mark::Wide(_) => None,
-        Mark::Budget => None,
-    }
-}
-
 // The proposal that is taken out of a value, where its numbers are within their ranges.
 pub(crate) fn proposal_from(alloc: Global, value: &Value) -> Result<Option<Proposal>, AllocError>
     ensures { IfOk result (λ o. o ≡ proposal_found (view value.now)) }
@@ -113,10 +96,10 @@ pub(crate) fn proposal_from(alloc: Global, value: &Value) -> Result<Option<Propo
     let Some(fills) = fills_at(alloc, value)? else {
         return Ok(None);
     };
-    let Some(mark) = certificate_at(alloc, value)? else {
-        return Ok(None);
-    };
-    Ok(proposal_under(claim, fills, mark))
+    match value.get("certificate") {
+        Some(certificate) => proved_by(alloc, fills, claim, certificate),
+        None => Ok(None),
+    }
 }
 
 // The numbers of orders.

@@ -1,0 +1,6 @@
+use Rattle.std.proofs.Common.{rules}
+use Rattle.proposal_text.specs.CellReading.{cell_numbers}
+use Rattle.proposal_text.proofs.cells_shape.are_numbered.Goals as goal
+
+pub returns : goal.returns
+returns c = c.is_list.ensures cell_numbers (search rules)
