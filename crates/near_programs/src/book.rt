@@ -127,7 +127,8 @@ fn divided(entries: &[i64; 9], by: f64) -> [f64; 9] {
     form
 }
 
-fn scaled_form(entries: &[i64; 9], scales: Scales) -> [f64; 9] {
+/// The entries in scaled floats.
+pub fn scaled_form(entries: &[i64; 9], scales: Scales) -> [f64; 9] {
     let mut form = divided(entries, power(scales.weight));
     form[0] = nearest_i64_to_f64(entries[0]) / power(scales.money);
     form

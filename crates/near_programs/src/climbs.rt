@@ -38,10 +38,11 @@ struct Violation {
     excess: f64,
 }
 
-/// States at which more is owed than the liability, with how much.
+/// States at which more is owed than the liability, with how much, and what the climbs to them cost.
 #[derive(Drop)]
 pub struct Violated {
     found: Vec<Violation>,
+    pub work: u64,
 }
 
 // A sign for each leg: 1 where its option pays at the point.
@@ -53,11 +54,12 @@ fn signs_at(alloc: Global, book: &Book, point: &[f64; 9]) -> Result<Vec<i8>, All
     Ok(signs)
 }
 
-// A point, and what is owed there past the liability.
+// A point, what is owed there past the liability, and what it cost to come there.
 #[derive(Clone, Copy)]
 struct Reached {
     point: [f64; 9],
     net: f64,
+    work: u64,
 }
 
 // Makes the bought payoffs linear at a point, and solves.
@@ -74,9 +76,11 @@ fn step(
         holds: false,
         below: 0.0,
     };
-    let point = solve_node(alloc, book, question)?.point;
+    let found = solve_node(alloc, book, question)?;
+    let point = found.point;
+    let work = found.work;
     let net = net_at(book, &master.fills, master.liability, &point);
-    Ok(Reached { point, net })
+    Ok(Reached { point, net, work })
 }
 
 // Climbs from a point.
@@ -89,10 +93,13 @@ fn climb(
     let mut best = Reached {
         point: *from,
         net: -1e300,
+        work: 0,
     };
     for _ in 0..STEPS {
-        let next = step(alloc, book, master, &best.point)?;
+        let mut next = step(alloc, book, master, &best.point)?;
+        next.work = next.work.saturating_add(best.work);
         if next.net <= best.net + SMALL {
+            best.work = next.work;
             break;
         }
         best = next;
@@ -150,6 +157,7 @@ impl Violated {
     pub fn new(alloc: Global) -> Violated {
         Violated {
             found: Vec::new(alloc),
+            work: 0,
         }
     }
 
@@ -163,6 +171,7 @@ impl Violated {
         forgiven: f64,
     ) -> Result<(), AllocError> {
         let reached = climb(alloc, book, master, from)?;
+        self.work = self.work.saturating_add(reached.work);
         let least = if reached.point[0] == 0.0 {
             RAY_TOLERANCE
         } else {

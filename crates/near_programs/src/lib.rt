@@ -8,12 +8,18 @@
 
 pub mod book;
 pub mod climbs;
+pub mod fractions;
 pub mod master;
+pub mod mending;
 pub mod node;
 pub mod numbers;
+pub mod opens;
+pub mod parts;
 pub mod points;
+pub mod rounding;
 mod rows;
 pub mod sides;
+pub mod starts;
 mod steps;
 mod table;
 pub mod tree;
@@ -21,7 +27,11 @@ pub mod tree;
 pub use book::{Book, NearLeg, NearOrder, Scales};
 pub use climbs::{Draws, Violated};
 pub use master::{Master, SMALL};
-pub use node::{Found, LegMultiplier, Question, RAY_TOLERANCE, solve_closing, solve_node};
+pub use node::{
+    Column, EntrySums, Found, NearMultiplier, Question, RAY_TOLERANCE, close_columns,
+    solve_closing, solve_columns, solve_node,
+};
+pub use opens::{Aim, Open};
 pub use points::NearState;
 pub use rows::{add_entry, add_times, entry, from_zero, plus_products, power, set_entry};
 pub use sides::{SolvedNode, solve_for_sides};

@@ -48,6 +48,8 @@ pub struct Master {
     // what the market owes for each order at prices of 0
     base: Vec<f64>,
     values: Vec<f64>,
+    // what tables cost that were made anew since
+    old_work: u64,
 }
 
 // What a leg adds to its order's coefficient at a payoff.
@@ -137,6 +139,7 @@ impl Master {
             liability: 0.0,
             base,
             values,
+            old_work: 0,
         })
     }
 
@@ -224,9 +227,15 @@ impl Master {
         Ok(master)
     }
 
+    /// What it cost so far.
+    pub fn work(&self) -> u64 {
+        self.old_work.saturating_add(self.table.work())
+    }
+
     // The table made anew from its states, where rounding has moved it.
     fn rebuild(&mut self, book: &Book) -> Result<(), AllocError> {
         let states = self.live_states()?;
+        self.old_work = self.work();
         self.table = start(book, self.alloc, &self.base)?;
         self.states.clear();
         self.add_states(book, &states)

@@ -13,9 +13,9 @@ pub(crate) const NODE_TURNS: Turns = Turns {
     pivot: 5.960464477539063e-8,
     cap: 400,
 };
-// The most that a multiplier of a long leg may be, in scaled fills: signs that no state has are
-// told apart by much of both.
-const TOP: f64 = 1024.0;
+/// The most that a multiplier of a long leg may be, in scaled fills: signs that no state has are
+/// told apart by much of both.
+pub const TOP: f64 = 1024.0;
 /// What is owed along a ray and counts for nothing: 2^-31.
 pub const RAY_TOLERANCE: f64 = 4.656612873077393e-10;
 
@@ -29,20 +29,21 @@ pub struct Question<'a> {
     pub below: f64,
 }
 
-/// The multiplier of the leg at a place.
+/// The multiplier of what stands at a place: of a leg.
 #[derive(Clone, Copy)]
-pub struct LegMultiplier {
-    pub leg: usize,
+pub struct NearMultiplier {
+    pub place: usize,
     pub value: f64,
 }
 
-/// The answer: the liability wanted at a point, or a ray with what is owed along it; with the legs'
-/// multipliers.
+/// The answer: the liability wanted at a point, or a ray with what is owed along it; with the
+/// multipliers of what has a column, and what the program cost.
 #[derive(Drop)]
 pub struct Found {
     pub value: f64,
     pub point: [f64; 9],
-    pub multipliers: Vec<LegMultiplier>,
+    pub multipliers: Vec<NearMultiplier>,
+    pub work: u64,
 }
 
 impl Found {
@@ -52,13 +53,22 @@ impl Found {
     }
 }
 
-// A column: the leg, the factor of its form, and its bound.
+/// A column: the place of what it multiplies, the factor of its form, and its bound.
 #[derive(Clone, Copy)]
-pub(crate) struct Column {
-    leg: usize,
-    factor: f64,
-    form: [f64; 9],
-    bound: f64,
+pub struct Column {
+    pub place: usize,
+    pub factor: f64,
+    pub form: [f64; 9],
+    pub bound: f64,
+}
+
+/// What the columns are to bring to 0 or below: the sums of the entries before multipliers, of
+/// which so many are slopes, and how far below 0 each slope is to be.
+#[derive(Clone, Copy)]
+pub struct EntrySums {
+    pub sums: [f64; 9],
+    pub underlyings: usize,
+    pub below: f64,
 }
 
 /// The sign of a leg.
@@ -106,7 +116,7 @@ fn column_of(i: usize, leg: &NearLeg, question: Question) -> Option<Column> {
         }
         let factor = if sign == 1 { 1.0 } else { -1.0 };
         return Some(Column {
-            leg: i,
+            place: i,
             factor,
             form: leg.form,
             bound: TOP,
@@ -116,7 +126,7 @@ fn column_of(i: usize, leg: &NearLeg, question: Question) -> Option<Column> {
         return None;
     }
     Some(Column {
-        leg: i,
+        place: i,
         factor: -1.0,
         form: leg.form,
         bound: fill,
@@ -158,7 +168,7 @@ fn ask_least_entry(table: &mut Table, columns: &[Column], sum: f64) {
 // Row 1 asks for the least cost.
 fn ask_least_cost(table: &mut Table, columns: &[Column], costs: &[f64]) {
     for (j, column) in columns.iter().enumerate() {
-        table.set(1, j, entry(costs, column.leg));
+        table.set(1, j, entry(costs, column.place));
     }
 }
 
@@ -257,61 +267,65 @@ fn take_out(table: &mut Table, slack: usize) -> Result<(), AllocError> {
 }
 
 // The multipliers of the columns that are above 0.
-fn read_multipliers(table: &Table, columns: &[Column]) -> Result<Vec<LegMultiplier>, AllocError> {
+fn read_multipliers(table: &Table, columns: &[Column]) -> Result<Vec<NearMultiplier>, AllocError> {
     let mut multipliers = Vec::new(table.allocator());
     for (j, column) in columns.iter().enumerate() {
         let value = table.value_of(j);
         if value > 0.0 {
-            let leg = column.leg;
-            multipliers.push(LegMultiplier { leg, value })?;
+            let place = column.place;
+            multipliers.push(NearMultiplier { place, value })?;
         }
     }
     Ok(multipliers)
 }
 
-// The rows of the first slopes.
+// The rows of the slopes.
 fn add_slopes(
     table: &mut Table,
     columns: &[Column],
-    sums: &[f64; 9],
-    underlyings: usize,
-    below: f64,
+    entries: &EntrySums,
 ) -> Result<(), AllocError> {
-    for underlying in 0..underlyings {
+    for underlying in 0..entries.underlyings {
         let place = underlying.saturating_add(1);
-        add_entry_row(table, columns, entry(sums, place) + below, place)?;
+        let sum = entry(&entries.sums, place) + entries.below;
+        add_entry_row(table, columns, sum, place)?;
     }
     Ok(())
+}
+
+// The sums of a node before multipliers.
+pub(crate) fn entries_of(book: &Book, question: Question) -> EntrySums {
+    EntrySums {
+        sums: long_sums(book, question.fills, question.signs),
+        underlyings: book.underlyings,
+        below: question.below,
+    }
 }
 
 // The node's table.
 pub(crate) fn table_of(
     alloc: Global,
-    book: &Book,
     columns: &[Column],
-    question: Question,
+    entries: &EntrySums,
 ) -> Result<Table, AllocError> {
-    let sums = long_sums(book, question.fills, question.signs);
     let mut table = slack_table(alloc, columns)?;
-    ask_least_entry(&mut table, columns, sums[0]);
-    add_slopes(&mut table, columns, &sums, book.underlyings, question.below)?;
+    ask_least_entry(&mut table, columns, entries.sums[0]);
+    add_slopes(&mut table, columns, entries)?;
     Ok(table)
 }
 
 // The table of the multipliers of least cost.
 fn closing_table(
     alloc: Global,
-    book: &Book,
     columns: &[Column],
-    question: Question,
+    entries: &EntrySums,
     enough: f64,
     costs: &[f64],
 ) -> Result<Table, AllocError> {
-    let sums = long_sums(book, question.fills, question.signs);
     let mut table = slack_table(alloc, columns)?;
     ask_least_cost(&mut table, columns, costs);
-    add_slopes(&mut table, columns, &sums, book.underlyings, question.below)?;
-    add_entry_row(&mut table, columns, sums[0] - enough, 0)?;
+    add_slopes(&mut table, columns, entries)?;
+    add_entry_row(&mut table, columns, entries.sums[0] - enough, 0)?;
     Ok(table)
 }
 
@@ -324,6 +338,7 @@ fn found_in(table: &mut Table, columns: &[Column]) -> Result<Found, AllocError> 
             value: left,
             point: prices_in(table, 0, 0.0),
             multipliers: Vec::new(table.allocator()),
+            work: table.work(),
         });
     }
     table.primal(1, slack, NODE_TURNS)?;
@@ -331,28 +346,53 @@ fn found_in(table: &mut Table, columns: &[Column]) -> Result<Found, AllocError> 
         value: -table.at(1, table.width()),
         point: prices_in(table, 1, 1.0),
         multipliers: read_multipliers(table, columns)?,
+        work: table.work(),
     })
+}
+
+/// The least first entry that multipliers of columns leave with no slope above 0, by at most 400
+/// turns in each of two phases. The error is want of memory.
+pub fn solve_columns(
+    alloc: Global,
+    columns: &[Column],
+    entries: &EntrySums,
+) -> Result<Found, AllocError> {
+    let mut table = table_of(alloc, columns, entries)?;
+    found_in(&mut table, columns)
 }
 
 /// Solves the program of a node by at most 400 turns in each of its two phases. The error is want
 /// of memory.
 pub fn solve_node(alloc: Global, book: &Book, question: Question) -> Result<Found, AllocError> {
     let columns = columns_of(alloc, book, question)?;
-    let mut table = table_of(alloc, book, &columns, question)?;
-    found_in(&mut table, &columns)
+    solve_columns(alloc, &columns, &entries_of(book, question))
 }
 
 // Both phases of a closing program.
 fn closing_multipliers(
     table: &mut Table,
     columns: &[Column],
-) -> Result<Option<Vec<LegMultiplier>>, AllocError> {
+) -> Result<Option<Vec<NearMultiplier>>, AllocError> {
     let slack = columns.len();
     if first_phase(table, slack)? > 0.0 {
         return Ok(None);
     }
     table.primal(1, slack, NODE_TURNS)?;
     Ok(Some(read_multipliers(table, columns)?))
+}
+
+/// The multipliers of least cost that leave no slope above 0 and the first entry at most at
+/// `enough`, each at the cost at its column's place for each 1 of it; None where none do. Two phases
+/// of at most 400 turns. The error is want of memory.
+pub fn close_columns(
+    alloc: Global,
+    columns: &[Column],
+    entries: &EntrySums,
+    enough: f64,
+    costs: &[f64],
+) -> Result<Option<Vec<NearMultiplier>>, AllocError> {
+    let mut table = closing_table(alloc, columns, entries, enough, costs)?;
+    closing_multipliers(&mut table, columns)
 }
 
 /// The multipliers of least cost that close a node at this liability, each at its leg's cost for
@@ -363,8 +403,7 @@ pub fn solve_closing(
     question: Question,
     enough: f64,
     costs: &[f64],
-) -> Result<Option<Vec<LegMultiplier>>, AllocError> {
+) -> Result<Option<Vec<NearMultiplier>>, AllocError> {
     let columns = columns_of(alloc, book, question)?;
-    let mut table = closing_table(alloc, book, &columns, question, enough, costs)?;
-    closing_multipliers(&mut table, &columns)
+    close_columns(alloc, &columns, &entries_of(book, question), enough, costs)
 }

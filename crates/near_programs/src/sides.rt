@@ -1,6 +1,6 @@
 //! Programs of a node's sides, each begun where the node's own ended (a warm start).
 
-use crate::node::{NODE_TURNS, Question, columns_of, first_phase, table_of};
+use crate::node::{NODE_TURNS, Question, columns_of, entries_of, first_phase, table_of};
 use crate::rows::{from_zero, set_entry};
 use crate::table::Table;
 use crate::{Book, NearLeg};
@@ -25,7 +25,7 @@ pub fn solve_for_sides(
     question: Question,
 ) -> Result<Option<SolvedNode>, AllocError> {
     let columns = columns_of(alloc, book, question)?;
-    let table = table_of(alloc, book, &columns, question)?;
+    let table = table_of(alloc, &columns, &entries_of(book, question))?;
     solved(table, columns.len())
 }
 

@@ -22,6 +22,7 @@ pub struct Table {
     upper: Vec<f64>,
     flipped: Vec<bool>,
     pivot_row: Vec<f64>,
+    work: u64,
 }
 
 impl Table {
@@ -37,6 +38,7 @@ impl Table {
             upper: vec![in alloc; UNBOUNDED; width]?,
             flipped: vec![in alloc; false; width]?,
             pivot_row: Vec::new(alloc),
+            work: 0,
             rows: zero_rows(alloc, objectives, width)?,
         })
     }
@@ -54,6 +56,17 @@ impl Table {
     /// How many rows are objectives.
     pub fn objectives(&self) -> usize {
         self.objectives
+    }
+
+    /// How many entries its turns went over: what it cost so far, whatever the machine.
+    pub fn work(&self) -> u64 {
+        self.work
+    }
+
+    // Counts a turn.
+    fn count_turn(&mut self) {
+        let entries = self.rows.len().saturating_mul(self.width) as u64;
+        self.work = self.work.saturating_add(entries);
     }
 
     /// The rows: entries by column, and the right side behind them.
@@ -207,6 +220,7 @@ impl Table {
         }
         self.eliminate_others(row, column);
         self.exchange(row, column);
+        self.count_turn();
         Ok(())
     }
 
@@ -252,6 +266,7 @@ impl Table {
             flip_entry(numbers, column, side, bound);
         }
         self.turn_flip(variable);
+        self.count_turn();
     }
 
     /// Makes a column that of a variable which no row has.

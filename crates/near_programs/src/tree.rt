@@ -2,10 +2,12 @@
 
 use crate::book::{Book, NearLeg};
 use crate::master::Master;
-use crate::node::{
-    Found, LegMultiplier, Question, RAY_TOLERANCE, fill_of, long_sums, sign_at, solve_node,
+use crate::node::{Found, NearMultiplier, Question, fill_of, long_sums, sign_at, solve_node};
+use crate::opens::{
+    Aim, Open, excess_of, has_slope_above, is_mixed, open_by, place_of_most, take_greatest,
+    violated, with_sign,
 };
-use crate::points::{NearState, net_at, reach_from_zero, state_of};
+use crate::points::{NearState, reach_from_zero};
 use crate::rows::{add_times, entry, from_zero, set_entry};
 use crate::sides::{SolvedNode, solve_for_sides};
 use std::alloc::{AllocError, Global};
@@ -24,21 +26,20 @@ const MOST_BYTES: usize = 1_000_000;
 const COMPARED: usize = 12;
 // The most looks at open leaves in a round.
 const MOST_LOOKS: u32 = 40_000;
-// What the excess of a ray is counted above what is owed along it, so that rays come first.
-const RAY_EXCESS: f64 = 1e6;
 // The least part of a leaf's excess that a side of it counts as closing.
 const LEAST_GAIN: f64 = 1e-6;
 // The most violated states that a round gathers.
 const MOST_STATES: usize = 30;
 
-/// A node: a leaf by its place in the list of leaves, or the leg split at and both sides.
+/// A node: a leaf by its place in the list of leaves, or the place of the leg split at, and both
+/// sides.
 #[derive(Clone, Copy)]
 pub enum TreeNode {
     Leaf {
         leaf: usize,
     },
     Split {
-        leg: usize,
+        place: usize,
         plus: usize,
         minus: usize,
     },
@@ -50,7 +51,7 @@ pub enum TreeNode {
 pub struct Leaf {
     node: usize,
     pub signs: Vec<i8>,
-    multipliers: Vec<LegMultiplier>,
+    multipliers: Vec<NearMultiplier>,
     is_split: bool,
 }
 
@@ -67,29 +68,12 @@ pub struct Tree {
     is_careful: bool,
 }
 
-// A leaf that is not closed: where, and by how much.
-#[derive(Clone, Copy)]
-struct Open {
-    leaf: usize,
-    excess: f64,
-    point: [f64; 9],
-}
-
 // The node of a leaf that is split, and the signs of both sides.
 #[derive(Drop)]
 struct Sides {
     node: usize,
     plus: Vec<i8>,
     minus: Vec<i8>,
-}
-
-// What the tree is grown for.
-#[derive(Clone, Copy)]
-struct Aim<'a> {
-    alloc: Global,
-    book: &'a Book,
-    master: &'a Master,
-    forgiven: f64,
 }
 
 // The factor of a multiplier in the sums of entries.
@@ -104,22 +88,12 @@ fn factor_of(leg: &NearLeg, sign: i8, share: f64, fills: &[f64]) -> f64 {
 }
 
 // Adds a leg's multiplier to the sums of entries.
-fn add_multiplier(aim: Aim, sums: &mut [f64; 9], signs: &[i8], multiplier: &LegMultiplier) {
-    if let Some(leg) = aim.book.legs.get(multiplier.leg) {
-        let sign = sign_at(signs, multiplier.leg);
+fn add_multiplier(aim: Aim, sums: &mut [f64; 9], signs: &[i8], multiplier: &NearMultiplier) {
+    if let Some(leg) = aim.book.legs.get(multiplier.place) {
+        let sign = sign_at(signs, multiplier.place);
         let factor = factor_of(leg, sign, multiplier.value, &aim.master.fills);
         add_times(sums, factor, &leg.form);
     }
-}
-
-// Whether a sum behind the first is above 0.
-fn has_slope_above(sums: &[f64; 9]) -> bool {
-    for (place, sum) in sums.iter().enumerate() {
-        if place > 0 && *sum > 0.0 {
-            return true;
-        }
-    }
-    false
 }
 
 impl Leaf {
@@ -142,9 +116,9 @@ impl Leaf {
     }
 
     // Keeps a multiplier, as it is written, and short legs' as shares of their fills.
-    fn keep_one(&mut self, aim: Aim, multiplier: &LegMultiplier) -> Result<(), AllocError> {
+    fn keep_one(&mut self, aim: Aim, multiplier: &NearMultiplier) -> Result<(), AllocError> {
         let mut kept = *multiplier;
-        let Some(leg) = aim.book.legs.get(kept.leg) else {
+        let Some(leg) = aim.book.legs.get(kept.place) else {
             return Ok(());
         };
         if !leg.is_long {
@@ -190,52 +164,6 @@ fn solve_signs(aim: Aim, signs: &[i8]) -> Result<Found, AllocError> {
     solve_node(aim.alloc, aim.book, question_of(aim, signs))
 }
 
-// By how much more than the liability a leaf wants; 0 where that is forgiven.
-fn excess_of(aim: Aim, found: &Found) -> f64 {
-    let excess = if found.is_ray() {
-        RAY_EXCESS + found.value
-    } else {
-        found.value - aim.master.liability
-    };
-    if excess <= aim.forgiven { 0.0 } else { excess }
-}
-
-// How a leaf is open by an answer, where it is.
-fn open_by(aim: Aim, leaf: usize, found: &Found) -> Option<Open> {
-    let excess = excess_of(aim, found);
-    if excess <= 0.0 {
-        return None;
-    }
-    Some(Open {
-        leaf,
-        excess,
-        point: found.point,
-    })
-}
-
-// The place of the open leaf of greatest excess.
-fn place_of_greatest(opens: &[Open]) -> Option<usize> {
-    let mut most = 0.0;
-    let mut place = None;
-    for (i, open) in opens.iter().enumerate() {
-        if open.excess > most {
-            most = open.excess;
-            place = Some(i);
-        }
-    }
-    place
-}
-
-// The open leaf of greatest excess, which is taken from the list.
-fn take_greatest(opens: &mut Vec<Open>) -> Option<Open> {
-    let place = place_of_greatest(opens)?;
-    if place < opens.len() {
-        Some(opens.swap_remove(place))
-    } else {
-        None
-    }
-}
-
 // What the entries above 0 pay at a point.
 fn wide_reach(form: &[f64; 9], point: &[f64; 9]) -> f64 {
     let mut wide = 0.0;
@@ -243,17 +171,6 @@ fn wide_reach(form: &[f64; 9], point: &[f64; 9]) -> f64 {
         wide = wide + from_zero(*number) * entry(point, place);
     }
     wide
-}
-
-// Whether entries of both signs stand in a form.
-fn is_mixed(form: &[f64; 9]) -> bool {
-    let mut least = 0.0;
-    let mut most = 0.0;
-    for number in form {
-        least = number.min(least);
-        most = number.max(most);
-    }
-    least < 0.0 && most > 0.0
 }
 
 // How much a leg is counted above what it pays at a point: 0 but for a long leg without a sign.
@@ -272,19 +189,6 @@ fn all_overstated(aim: Aim, signs: &[i8], point: &[f64; 9]) -> Result<Vec<f64>, 
         overs.push(overstated(aim, leg, sign_at(signs, i), point))?;
     }
     Ok(overs)
-}
-
-// The place of the greatest number above 0.
-fn place_of_most(numbers: &[f64]) -> Option<usize> {
-    let mut most = 0.0;
-    let mut place = None;
-    for (i, number) in numbers.iter().enumerate() {
-        if *number > most {
-            most = *number;
-            place = Some(i);
-        }
-    }
-    place
 }
 
 // A leaf that is to be split: its signs, its excess, and its program as it was solved, which a ray
@@ -366,37 +270,6 @@ fn best_split(
         }
     }
     Ok(best)
-}
-
-// The signs with one more.
-fn with_sign(alloc: Global, signs: &[i8], leg: usize, sign: i8) -> Result<Vec<i8>, AllocError> {
-    let mut more = Vec::new(alloc);
-    for (i, old) in signs.iter().enumerate() {
-        more.push(if i == leg { sign } else { *old })?;
-    }
-    Ok(more)
-}
-
-// The state of an open leaf, where more is owed there than is forgiven and the master program does
-// not know it.
-fn violated(aim: Aim, open: &Open) -> Option<NearState> {
-    let net = net_at(
-        aim.book,
-        &aim.master.fills,
-        aim.master.liability,
-        &open.point,
-    );
-    let least = if open.point[0] == 0.0 {
-        RAY_TOLERANCE
-    } else {
-        aim.forgiven * 0.5
-    };
-    let state = state_of(&open.point, aim.book.scales);
-    if net > least && !aim.master.has_state(&state) {
-        Some(state)
-    } else {
-        None
-    }
 }
 
 impl Tree {
@@ -497,7 +370,11 @@ impl Tree {
         let minus = self.nodes.len();
         let minus_leaf = self.add_leaf(sides.minus)?;
         if let Some(node) = self.nodes.get_mut(sides.node) {
-            *node = TreeNode::Split { leg, plus, minus };
+            *node = TreeNode::Split {
+                place: leg,
+                plus,
+                minus,
+            };
         }
         self.look_at(aim, plus_leaf, opens)?;
         self.look_at(aim, minus_leaf, opens)

@@ -1,24 +1,14 @@
 //! What the solver answers: a proposal in fractions.
 
-use crate::rounding::{FILL_BITS, WEIGHT_BITS, WholeMeasure, WholePoint};
 use cert_check::{Claim, Cover, Fills, Measure, Points, Weighted};
 use exact_num::Exact;
 use form::State;
-use frac::Frac128;
+use near_programs::fractions::dyadic;
 use near_programs::numbers::two_to;
 use near_programs::points::NearState;
+use near_programs::rounding::{FILL_BITS, WEIGHT_BITS, WholeMeasure, WholePoint};
 use proposal_check::{Proposal, ProposalCover};
 use std::alloc::{AllocError, Global};
-
-/// So many units of 2^-bits. None where that does not fit.
-pub fn dyadic(units: i128, bits: u32) -> Option<Frac128> {
-    let above = Frac128::from_whole(units).ok()?;
-    let below = Frac128::from_whole(two_to(bits)).ok()?;
-    if below.sign() == 0 {
-        return None;
-    }
-    above.div(below).ok()
-}
 
 // The fills in fractions.
 fn fraction_fills(alloc: Global, units: &[i128]) -> Result<Option<Fills>, AllocError> {

@@ -1,13 +1,13 @@
 //! The tree closed in whole numbers, with few multipliers of few digits, so that its text is short.
 
-use crate::line::leg_fill;
-use crate::rounding::{FILL_BITS, scaled_unit};
 use crate::written::Written;
 use cert_check::Cover;
+use near_programs::mending::{Lever, WholeSums, add_units};
 use near_programs::node::{Question, fill_of, sign_at, solve_closing, solve_node};
 use near_programs::numbers::{float_of, nearest_whole, plus_product, set_whole, two_to, whole_at};
+use near_programs::rounding::{FILL_BITS, leg_fill, scaled_unit};
 use near_programs::tree::{Leaf, Tree, TreeNode};
-use near_programs::{Book, LegMultiplier, NearLeg, SMALL, power};
+use near_programs::{Book, NearLeg, NearMultiplier, SMALL, power};
 use std::alloc::{AllocError, Global};
 
 // How far below 0 slopes are asked to be, one after another.
@@ -38,25 +38,9 @@ pub struct Closing<'a> {
     pub enough: i128,
 }
 
-// A leaf's whole multipliers, one for each leg, and the sums of its entries.
-#[derive(Drop)]
-struct Closed {
-    multipliers: Vec<i128>,
-    sums: [i128; 9],
-}
-
 // The factor of a leg's form in the sums for each unit of its multiplier.
 fn factor(leg: &NearLeg, sign: i8) -> i128 {
     if leg.is_long && sign == 1 { 1 } else { -1 }
-}
-
-// Adds so many units of a form to the sums.
-fn add_units(sums: &mut [i128; 9], entries: &[i64; 9], units: i128) -> Option<()> {
-    for (place, entry) in entries.iter().enumerate() {
-        let sum = plus_product(whole_at(sums, place), units, i128::from(*entry))?;
-        set_whole(sums, place, sum);
-    }
-    Some(())
 }
 
 // Adds so many units of the entries above 0 to the sums.
@@ -140,7 +124,7 @@ fn units_of(closing: Closing, leg: &NearLeg, value: f64, grid: i128) -> i128 {
 // Whole multipliers of all legs, multiples of the grid.
 fn whole_multipliers(
     closing: Closing,
-    found: &[LegMultiplier],
+    found: &[NearMultiplier],
     grid: i128,
 ) -> Result<Vec<i128>, AllocError> {
     let alloc = closing.alloc;
@@ -155,173 +139,57 @@ fn whole_multipliers(
 fn set_multiplier(
     closing: Closing,
     multipliers: &mut [i128],
-    multiplier: &LegMultiplier,
+    multiplier: &NearMultiplier,
     grid: i128,
 ) {
-    if let Some(leg) = closing.book.legs.get(multiplier.leg) {
+    if let Some(leg) = closing.book.legs.get(multiplier.place) {
         let units = units_of(closing, leg, multiplier.value, grid);
-        set_whole(multipliers, multiplier.leg, units);
+        set_whole(multipliers, multiplier.place, units);
     }
 }
 
-// Adds the multipliers to the sums.
-fn add_multipliers(closing: Closing, signs: &[i8], closed: &mut Closed) -> Option<()> {
+// What the multiplier of each leg may be, and what it adds.
+fn levers_of(closing: Closing, signs: &[i8]) -> Result<Vec<Lever>, AllocError> {
+    let mut levers = Vec::new(closing.alloc);
     for (i, leg) in closing.book.legs.iter().enumerate() {
-        let units = whole_at(&closed.multipliers, i);
-        let signed = units.saturating_mul(factor(leg, sign_at(signs, i)));
-        add_units(&mut closed.sums, &leg.entries, signed)?;
+        levers.push(lever_of(closing, leg, sign_at(signs, i)))?;
     }
-    Some(())
+    Ok(levers)
 }
 
-// The first slope above 0.
-fn first_above(sums: &[i128; 9]) -> Option<usize> {
-    for (i, sum) in sums.iter().enumerate() {
-        if i > 0 && *sum > 0 {
-            return Some(i);
-        }
-    }
-    None
-}
-
-// The units by which a leg's multiplier has to move so that a slope comes to 0 or below, below 0
-// where it has to fall: a multiple of the grid.
-fn move_for(leg: &NearLeg, sign: i8, slope: usize, above: i128, grid: i128) -> Option<i128> {
-    let entry = i128::from(*leg.entries.get(slope)?).saturating_mul(factor(leg, sign));
-    if entry == 0 {
-        return None;
-    }
-    let size = entry.saturating_abs().saturating_mul(grid).max(1);
-    let steps = above
-        .saturating_add(size)
-        .saturating_sub(1)
-        .div_euclid(size);
-    let units = steps.saturating_mul(grid);
-    Some(if entry < 0 {
-        units
+fn lever_of(closing: Closing, leg: &NearLeg, sign: i8) -> Lever {
+    let most = if !leg.is_long {
+        leg_fill(leg, closing.units)
+    } else if sign == 0 {
+        0
     } else {
-        0i128.saturating_sub(units)
-    })
-}
-
-// The sums after a move, where it lets no slope that it raises be above 0.
-fn moved(sums: &[i128; 9], leg: &NearLeg, signed: i128) -> Option<[i128; 9]> {
-    let mut next = *sums;
-    add_units(&mut next, &leg.entries, signed)?;
-    if raises_above(&next, sums) {
-        None
-    } else {
-        Some(next)
-    }
-}
-
-// Whether a slope is above 0 that was lower before.
-fn raises_above(sums: &[i128; 9], before: &[i128; 9]) -> bool {
-    for (place, sum) in sums.iter().enumerate() {
-        if place > 0 && *sum > 0 && *sum > whole_at(before, place) {
-            return true;
-        }
-    }
-    false
-}
-
-// Whether a leg's multiplier may be so many units.
-fn is_multiplier(closing: Closing, leg: &NearLeg, units: i128) -> bool {
-    units >= 0 && (leg.is_long || units <= leg_fill(leg, closing.units))
-}
-
-// Moves the multiplier of a leg by so many units, where it may be that and raises no slope above 0.
-// Answers whether it did.
-fn move_leg(
-    closing: Closing,
-    closed: &mut Closed,
-    place: usize,
-    leg: &NearLeg,
-    sign: i8,
-    units: i128,
-) -> bool {
-    let next = whole_at(&closed.multipliers, place).saturating_add(units);
-    if !is_multiplier(closing, leg, next) {
-        return false;
-    }
-    let Some(sums) = moved(&closed.sums, leg, units.saturating_mul(factor(leg, sign))) else {
-        return false;
+        i128::MAX
     };
-    set_whole(&mut closed.multipliers, place, next);
-    closed.sums = sums;
-    true
-}
-
-// Tries to mend a slope by one leg. Answers whether it did.
-fn mend_by(
-    closing: Closing,
-    signs: &[i8],
-    closed: &mut Closed,
-    place: usize,
-    slope: usize,
-    grid: i128,
-) -> bool {
-    let Some(leg) = closing.book.legs.get(place) else {
-        return false;
-    };
-    let sign = sign_at(signs, place);
-    if leg.is_long && sign == 0 {
-        return false;
+    Lever {
+        entries: leg.entries,
+        factor: factor(leg, sign),
+        most,
     }
-    let above = whole_at(&closed.sums, slope);
-    match move_for(leg, sign, slope, above, grid) {
-        Some(units) => move_leg(closing, closed, place, leg, sign, units),
-        None => false,
-    }
-}
-
-// Mends a slope by the first leg that can.
-fn mend(closing: Closing, signs: &[i8], closed: &mut Closed, slope: usize, grid: i128) -> bool {
-    for place in 0..closing.book.legs.len() {
-        if mend_by(closing, signs, closed, place, slope, grid) {
-            return true;
-        }
-    }
-    false
-}
-
-// Mends slopes until none is above 0. Answers whether it is so.
-fn mend_all(closing: Closing, signs: &[i8], closed: &mut Closed, grid: i128) -> bool {
-    for _ in 0..MENDS.saturating_mul(closing.book.underlyings) {
-        let Some(slope) = first_above(&closed.sums) else {
-            return true;
-        };
-        if !mend(closing, signs, closed, slope, grid) {
-            return false;
-        }
-    }
-    first_above(&closed.sums).is_none()
 }
 
 // The leaf closed by these multipliers, brought to the grid. None where a slope stays above 0.
 fn closed_by(
     closing: Closing,
     signs: &[i8],
-    found: &[LegMultiplier],
+    found: &[NearMultiplier],
     grid: i128,
-) -> Result<Option<Closed>, AllocError> {
+) -> Result<Option<WholeSums>, AllocError> {
     let multipliers = whole_multipliers(closing, found, grid)?;
     let Some(sums) = long_units(closing, signs) else {
         return Ok(None);
     };
-    let mut closed = Closed { multipliers, sums };
-    if add_multipliers(closing, signs, &mut closed).is_none() {
-        return Ok(None);
-    }
-    if mend_all(closing, signs, &mut closed, grid) {
-        Ok(Some(closed))
-    } else {
-        Ok(None)
-    }
+    let levers = levers_of(closing, signs)?;
+    let moves = MENDS.saturating_mul(closing.book.underlyings);
+    Ok(WholeSums::mended(multipliers, sums, &levers, grid, moves))
 }
 
 // Tries to close a leaf at the least liability, with slopes so far below 0.
-fn try_leaf(closing: Closing, signs: &[i8], below: f64) -> Result<Option<Closed>, AllocError> {
+fn try_leaf(closing: Closing, signs: &[i8], below: f64) -> Result<Option<WholeSums>, AllocError> {
     let question = question_of(closing, signs, below);
     let found = solve_node(closing.alloc, closing.book, question)?;
     if found.is_ray() {
@@ -340,7 +208,7 @@ fn question_of<'a>(closing: Closing<'a>, signs: &'a [i8], below: f64) -> Questio
 }
 
 // Tries to close a leaf within the aim by few multipliers with so many bits after the point.
-fn try_coarse(closing: Closing, signs: &[i8], bits: u32) -> Result<Option<Closed>, AllocError> {
+fn try_coarse(closing: Closing, signs: &[i8], bits: u32) -> Result<Option<WholeSums>, AllocError> {
     let grid = two_to(FILL_BITS.saturating_sub(bits));
     let unit = scaled_unit(closing.book.scales);
     // what the rounding of a multiplier moves a sum by, about
@@ -361,7 +229,7 @@ fn try_coarse(closing: Closing, signs: &[i8], bits: u32) -> Result<Option<Closed
 }
 
 // Closes a leaf: by a short text within the aim, or with the least liability that was found.
-fn close_leaf(closing: Closing, leaf: &Leaf) -> Result<Option<Closed>, AllocError> {
+fn close_leaf(closing: Closing, leaf: &Leaf) -> Result<Option<WholeSums>, AllocError> {
     for bits in COARSE_BITS {
         let coarse = try_coarse(closing, &leaf.signs, bits)?;
         if coarse.is_some() {
@@ -372,7 +240,7 @@ fn close_leaf(closing: Closing, leaf: &Leaf) -> Result<Option<Closed>, AllocErro
 }
 
 // Closes a leaf with the least liability that was found.
-fn close_exactly(closing: Closing, leaf: &Leaf) -> Result<Option<Closed>, AllocError> {
+fn close_exactly(closing: Closing, leaf: &Leaf) -> Result<Option<WholeSums>, AllocError> {
     let mut best = None;
     for below in BELOW {
         if let Some(closed) = try_leaf(closing, &leaf.signs, below)? {
@@ -386,7 +254,7 @@ fn close_exactly(closing: Closing, leaf: &Leaf) -> Result<Option<Closed>, AllocE
 }
 
 // Keeps what needs the lesser liability.
-fn keep_lesser(best: &mut Option<Closed>, closed: Closed) {
+fn keep_lesser(best: &mut Option<WholeSums>, closed: WholeSums) {
     let is_lesser = match best {
         Some(old) => closed.sums[0] < old.sums[0],
         None => true,
@@ -397,7 +265,7 @@ fn keep_lesser(best: &mut Option<Closed>, closed: Closed) {
 }
 
 // Whether it is closed by at most so much liability.
-fn needs_at_most(closed: &Option<Closed>, liability: i128) -> bool {
+fn needs_at_most(closed: &Option<WholeSums>, liability: i128) -> bool {
     match closed {
         Some(closed) => closed.sums[0] <= liability,
         None => false,
@@ -429,8 +297,8 @@ fn write_node(
 ) -> Result<bool, AllocError> {
     match tree.nodes.get(at).copied() {
         Some(TreeNode::Leaf { leaf }) => write_leaf(closing, tree.leaves.get(leaf), written),
-        Some(TreeNode::Split { leg, plus, minus }) => {
-            written.add_split(leg)?;
+        Some(TreeNode::Split { place, plus, minus }) => {
+            written.add_split(place)?;
             stack.push(minus)?;
             stack.push(plus)?;
             Ok(true)

@@ -7,9 +7,7 @@
 mod answer;
 mod closing;
 mod line;
-mod parts;
 pub mod proposing;
-mod rounding;
 mod solve;
 mod written;
 

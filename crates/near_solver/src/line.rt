@@ -2,6 +2,7 @@
 
 use near_programs::numbers::plus_product;
 use near_programs::points::{NearState, payoff};
+use near_programs::rounding::leg_fill;
 use near_programs::{Book, NearLeg};
 
 // A state of one underlying.
@@ -10,14 +11,6 @@ fn line_state(first: i128, price: i128) -> NearState {
     entries[0] = first;
     entries[1] = price;
     NearState { entries }
-}
-
-/// The fill of a leg in units.
-pub fn leg_fill(leg: &NearLeg, fills: &[i128]) -> i128 {
-    match fills.get(leg.order) {
-        Some(fill) => (*fill).saturating_mul(leg.count),
-        None => 0,
-    }
 }
 
 // What the market owes at a state, where it fits.

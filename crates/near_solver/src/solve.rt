@@ -3,17 +3,17 @@
 use crate::answer::{Solved, answer_of, surplus_of};
 use crate::closing::{Closing, close_tree, costs_of};
 use crate::line::line_liability;
-use crate::parts::{Growth, part_of};
-use crate::rounding::{
-    WholeMeasure, gains_of, less_fills, measure_of, premium, rounded_fills, scaled_unit,
-};
 use cert_check::Cover;
 use form::Batch;
-use near_programs::numbers::{float_of, nearest_whole};
-use near_programs::points::{bend, unit_ray};
-use near_programs::{
-    Book, Draws, Master, NearLeg, NearState, SMALL, Tree, Violated, from_zero, power,
+use near_programs::numbers::nearest_whole;
+use near_programs::parts::{Growth, part_of};
+use near_programs::rounding::{
+    WholeMeasure, gains_of, less_fills, measure_of, premium, rounded_fills, scaled_unit,
 };
+use near_programs::starts::{
+    SEED, add_all, climb, closer_measure, first_program, keep_lesser, scaled_fills,
+};
+use near_programs::{Book, Draws, Master, SMALL, Tree, from_zero, power};
 use proposal_check::Proposal;
 use std::alloc::{AllocError, Global};
 
@@ -23,67 +23,10 @@ const ATTEMPTS: u32 = 4;
 const PARTS: u32 = 20;
 // The most rounds.
 const ROUNDS: u32 = 400;
-// The most states that climbs add in a round.
-const CLIMBED: u32 = 40;
 // What is forgiven of the surplus: 2^-22.
 const FORGIVEN: f64 = 2.384185791015625e-7;
 // What short texts may take of the surplus: 2^-33.
 const UNSEEN: f64 = 1.1641532182693481e-10;
-// What the random prices of each batch begin with.
-const SEED: u64 = 88_172_645_463_325_252;
-
-// Adds the ray of each price.
-fn add_rays(master: &mut Master, book: &Book) -> Result<(), AllocError> {
-    for underlying in 0..book.underlyings {
-        let _ = master.add_state(book, unit_ray(underlying.saturating_add(1)))?;
-    }
-    Ok(())
-}
-
-// Adds the states at which one price alone is above 0 and a leg begins or ends to pay.
-fn add_bends(master: &mut Master, book: &Book, leg: &NearLeg) -> Result<(), AllocError> {
-    for underlying in 0..book.underlyings {
-        if let Some(state) = bend(leg, underlying.saturating_add(1), book.scales) {
-            let _ = master.add_state(book, state)?;
-        }
-    }
-    Ok(())
-}
-
-// The master program over the states that each batch begins with.
-fn first_program(alloc: Global, book: &Book) -> Result<Master, AllocError> {
-    let mut master = Master::new(alloc, book)?;
-    add_rays(&mut master, book)?;
-    for leg in book.legs.iter() {
-        add_bends(&mut master, book, leg)?;
-    }
-    Ok(master)
-}
-
-// Keeps the measure of the lesser bound.
-fn keep_lesser(best: &mut Option<WholeMeasure>, measure: WholeMeasure) {
-    let is_lesser = match best {
-        Some(old) => measure.bound < old.bound,
-        None => true,
-    };
-    if is_lesser {
-        *best = Some(measure);
-    }
-}
-
-// Climbs, and adds the states that are violated most. Answers whether there was one.
-fn climb(
-    alloc: Global,
-    book: &Book,
-    master: &mut Master,
-    draws: &mut Draws,
-    forgiven: f64,
-) -> Result<bool, AllocError> {
-    let mut violated = Violated::new(alloc);
-    violated.climb_all(alloc, book, master, draws, forgiven)?;
-    Ok(violated.add_greatest(book, master, CLIMBED)? > 0)
-}
-
 // One round: the master program, climbs, and where these find nothing the tree. Answers whether it
 // is the last.
 fn round(
@@ -94,22 +37,12 @@ fn round(
     draws: &mut Draws,
 ) -> Result<bool, AllocError> {
     let forgiven = from_zero(master.surplus(book)) * FORGIVEN + SMALL * 2.0;
-    if climb(alloc, book, master, draws, forgiven)? {
+    let mut work = 0;
+    if climb(alloc, book, master, draws, forgiven, &mut work)? {
         return Ok(false);
     }
     let states = tree.grow(book, master, forgiven)?;
     Ok(!add_all(book, master, &states)? || tree.is_full)
-}
-
-// Adds states. Answers whether one of them was new.
-fn add_all(book: &Book, master: &mut Master, states: &[NearState]) -> Result<bool, AllocError> {
-    let mut is_new = false;
-    for state in states {
-        if master.add_state(book, *state)? {
-            is_new = true;
-        }
-    }
-    Ok(is_new)
 }
 
 // All rounds. Answers the measure of the least bound.
@@ -130,31 +63,6 @@ fn rounds(
         }
     }
     Ok(best)
-}
-
-// The measure, or that of the prices with rays as they are, whichever has the lesser bound.
-fn closer_measure(
-    alloc: Global,
-    book: &Book,
-    master: &Master,
-    measure: WholeMeasure,
-) -> Result<WholeMeasure, AllocError> {
-    let priced = measure_of(alloc, book, &master.for_prices(book)?)?;
-    Ok(if priced.bound < measure.bound {
-        priced
-    } else {
-        measure
-    })
-}
-
-// The scaled floats of whole fills.
-fn scaled_fills(alloc: Global, book: &Book, units: &[i128]) -> Result<Vec<f64>, AllocError> {
-    let unit = scaled_unit(book.scales);
-    let mut fills = Vec::new(alloc);
-    for fill in units {
-        fills.push(float_of(*fill) / unit)?;
-    }
-    Ok(fills)
 }
 
 // The liability of fills and its cover.

@@ -1,10 +1,8 @@
 //! The tree as it is written in a proposal line, and how long it is there.
 
-use crate::answer::dyadic;
-use crate::rounding::FILL_BITS;
 use cert_check::Cover;
-use exact_num::Exact;
-use frac::Frac128;
+use near_programs::fractions::{bytes_of, digits, dyadic, number_of};
+use near_programs::rounding::FILL_BITS;
 use sign_tree::{Multiplier, Multipliers, Node, Nodes, SignTree};
 use std::alloc::{AllocError, Global};
 
@@ -25,36 +23,6 @@ pub struct Written {
     multipliers: Vec<Multiplier>,
     bytes: usize,
     liability: Option<i128>,
-}
-
-// The number of the leg at a place.
-fn number_of(place: usize) -> u32 {
-    u32::try_from(place.saturating_add(1)).unwrap_or(0)
-}
-
-// How many digits a number from 0 on has.
-fn digits(number: i128) -> usize {
-    let mut count = 1usize;
-    let mut power = 10i128;
-    for _ in 0..37 {
-        if number < power {
-            break;
-        }
-        power = power.saturating_mul(10);
-        count = count.saturating_add(1);
-    }
-    count
-}
-
-// The bytes of a fraction from 0 on.
-fn bytes_of(number: Frac128) -> usize {
-    let (above, below) = number.parts();
-    if below == 1 {
-        return digits(above);
-    }
-    digits(above)
-        .saturating_add(digits(below))
-        .saturating_add(1)
 }
 
 impl Written {

@@ -1,8 +1,8 @@
 //! Parts of a book whose tree does not fit: the orders without a long leg, and of the others those
 //! of greatest gain.
 
-use near_programs::numbers::whole_at;
-use near_programs::{Book, NearLeg, NearOrder};
+use crate::book::{Book, NearLeg, NearOrder};
+use crate::numbers::whole_at;
 use std::alloc::{AllocError, Global};
 
 // The orders with a long leg in the first part.
@@ -87,7 +87,7 @@ fn keep(keeps: &mut [bool], place: usize) {
 
 /// The book in which only the orders that are kept may be filled. The others keep their places,
 /// with nothing to fill. The error is want of memory.
-pub(crate) fn part_of(alloc: Global, book: &Book, keeps: &[bool]) -> Result<Book, AllocError> {
+pub fn part_of(alloc: Global, book: &Book, keeps: &[bool]) -> Result<Book, AllocError> {
     let mut orders = Vec::new(alloc);
     for (i, order) in book.orders.iter().enumerate() {
         orders.push(kept_or_not(order, is_kept(keeps, i)))?;
@@ -104,7 +104,7 @@ pub(crate) fn part_of(alloc: Global, book: &Book, keeps: &[bool]) -> Result<Book
 /// gain first. A group is half of all before it until one does not fit, and half of the last from
 /// then on; an order that alone does not fit is left out.
 #[derive(Drop)]
-pub(crate) struct Growth {
+pub struct Growth {
     ranked: Vec<usize>,
     keeps: Vec<bool>,
     next: usize,
@@ -114,7 +114,7 @@ pub(crate) struct Growth {
 
 impl Growth {
     /// Nothing with a long leg yet. The error is want of memory.
-    pub(crate) fn new(alloc: Global, book: &Book, gains: &[i128]) -> Result<Growth, AllocError> {
+    pub fn new(alloc: Global, book: &Book, gains: &[i128]) -> Result<Growth, AllocError> {
         Ok(Growth {
             ranked: ranked(alloc, book, gains)?,
             keeps: without_long(alloc, book)?,
@@ -125,12 +125,12 @@ impl Growth {
     }
 
     /// Whether all orders were tried, or as many parts did not fit as may.
-    pub(crate) fn is_over(&self) -> bool {
+    pub fn is_over(&self) -> bool {
         self.next >= self.ranked.len() || self.misfits >= MISFITS
     }
 
     /// The orders that fit so far, and the next group. The error is want of memory.
-    pub(crate) fn with_next(&self) -> Result<Vec<bool>, AllocError> {
+    pub fn with_next(&self) -> Result<Vec<bool>, AllocError> {
         let mut keeps = self.keeps.clone()?;
         for rank in self.next..self.next.saturating_add(self.group) {
             if let Some(place) = self.ranked.get(rank) {
@@ -141,7 +141,7 @@ impl Growth {
     }
 
     /// Notes that they fit.
-    pub(crate) fn take(&mut self, keeps: Vec<bool>) {
+    pub fn take(&mut self, keeps: Vec<bool>) {
         self.keeps = keeps;
         self.next = self.next.saturating_add(self.group);
         let before = if self.misfits == 0 {
@@ -153,7 +153,7 @@ impl Growth {
     }
 
     /// Notes that they do not.
-    pub(crate) fn leave(&mut self) {
+    pub fn leave(&mut self) {
         self.misfits = self.misfits.saturating_add(1);
         if self.group == 1 {
             self.next = self.next.saturating_add(1);

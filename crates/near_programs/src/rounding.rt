@@ -1,8 +1,10 @@
 //! Whole multiples of powers of two: the measure and its bound, the fills.
 
-use near_programs::numbers::{add_whole, nearest_whole, plus_product, two_to, whole_at};
-use near_programs::points::{NearState, RAY_BITS, payoff, zero_prices};
-use near_programs::{Book, Master, NearLeg, NearOrder, Scales, entry, power};
+use crate::book::{Book, NearLeg, NearOrder, Scales};
+use crate::master::Master;
+use crate::numbers::{add_whole, nearest_whole, plus_product, set_whole, two_to, whole_at};
+use crate::points::{NearState, RAY_BITS, payoff, zero_prices};
+use crate::rows::{entry, power};
 use std::alloc::{AllocError, Global};
 
 /// Fills, liability and multipliers are whole multiples of 2^-40.
@@ -223,4 +225,12 @@ pub fn premium(book: &Book, fills: &[i128]) -> Option<i128> {
         total = plus_product(total, order.limit, whole_at(fills, i))?;
     }
     Some(total)
+}
+
+/// The fill of a leg in units.
+pub fn leg_fill(leg: &NearLeg, fills: &[i128]) -> i128 {
+    match fills.get(leg.order) {
+        Some(fill) => (*fill).saturating_mul(leg.count),
+        None => 0,
+    }
 }
