@@ -91,13 +91,13 @@ pub divided : (k : ℕ) → k ≤ limit → div_of limit (whole (pos k)) (whole 
 unfolding div_of unit_inverse
 divided k le = rw (quotient_fits k le) (ap Ok (quotient_is k))
 
-record IsShare (k : ℕ) (f : Fraction) : Type 0 where
-  lowest : IsLowest f
-  same : f.numerator *ℤ pos unit ≡ pos k *ℤ pos f.denominator
-  above : unsigned_abs f.numerator < 2 ^ 127
-  below : f.denominator < 2 ^ 127
+pub record IsShare (k : ℕ) (f : Fraction) : Type 0 where
+  pub lowest : IsLowest f
+  pub same : f.numerator *ℤ pos unit ≡ pos k *ℤ pos f.denominator
+  pub above : unsigned_abs f.numerator < 2 ^ 127
+  pub below : f.denominator < 2 ^ 127
 
-share_of : (k : ℕ) → k ≤ limit → IsShare k (reduced (pos k) unit)
+pub share_of : (k : ℕ) → k ≤ limit → IsShare k (reduced (pos k) unit)
 unfolding inverse unit_inverse
 share_of k le = subst (IsShare k) (quotient_is k) share
   where

@@ -18,8 +18,12 @@ pub mod Parts
 pub mod Listed
 pub mod HeldSums
 pub mod WorkedRules
-pub mod Accounts
 pub mod Entered
 pub mod Bounded
+pub mod RunBounds
+pub mod OwingAmounts
+pub mod OwnLosses
+pub mod SeveralBounds
+pub mod Accounts
 pub mod Asked
 pub mod Runs

@@ -146,7 +146,7 @@ rounded_up C n c d t some le up =
     let times = *ℤ_mono (unit * t) (n *ℤ pos 1) (c *ℤ pos d) up in
     *ℤ_cancel_le d C (c *ℤ pos (unit * t)) some (omega (arith, ints, products, le, times))
 
-as_filled : (o r c : ℤ) (D t L : ℕ) → (o *ℤ pos unit) ≤ℤ (r *ℤ pos D) → (r +ℤ pos (unit * L)) ≤ℤ (c *ℤ pos (unit * t)) → (o +ℤ pos (D * L)) ≤ℤ (c *ℤ pos (D * t))
+pub as_filled : (o r c : ℤ) (D t L : ℕ) → (o *ℤ pos unit) ≤ℤ (r *ℤ pos D) → (r +ℤ pos (unit * L)) ≤ℤ (c *ℤ pos (unit * t)) → (o +ℤ pos (D * L)) ≤ℤ (c *ℤ pos (D * t))
 as_filled o r c D t L owes most =
     let times = *ℤ_mono D (r +ℤ pos (unit * L)) (c *ℤ pos (unit * t)) most in
     *ℤ_cancel_le unit (o +ℤ pos (D * L)) (c *ℤ pos (D * t)) (omega arith) (omega (arith, ints, products, owes, times))

@@ -171,7 +171,7 @@ turned : (side : Side) (c n : ℤ) (q : ℕ) → owed_by side (c *ℤ (n *ℤ po
 turned Buy c n q = omega (arith, ints, products)
 turned Sell c n q = omega (arith, ints, products)
 
-up_over : (x m : ℤ) (d q D : ℕ) → d * q ≡ D → (x *ℤ pos 1) ≤ℤ (m *ℤ pos d) → (x *ℤ pos q) ≤ℤ (m *ℤ pos D)
+pub up_over : (x m : ℤ) (d q D : ℕ) → d * q ≡ D → (x *ℤ pos 1) ≤ℤ (m *ℤ pos d) → (x *ℤ pos q) ≤ℤ (m *ℤ pos D)
 up_over x m d q D whole le =
     let times = *ℤ_mono q (x *ℤ pos 1) (m *ℤ pos d) le in
     let same = ap (λ (k : ℕ). m *ℤ pos k) whole in

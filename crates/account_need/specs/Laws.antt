@@ -1,8 +1,10 @@
 -- What rounded sums, the bound of a market on one underlying and the need of an account imply.
 use Rattle.std.specs.Prelude.{ℕ, ◌*◌, ◌≡◌, ◌≤◌, List, [], ◌∷◌, true, ℤ, pos, ◌+ℤ◌, ◌*ℤ◌, ◌≤ℤ◌, Ok}
-use Rattle.std.specs.List.{zip}
+use Rattle.std.specs.List.{All, sum, zip}
 use Rattle.arithmetic.specs.Sums.{weigh_ℤ}
 use Rattle.exact_num.specs.Fraction.{Fraction}
+use Rattle.form.specs.declared.limits.TheConstants.{MAX_UNDERLYINGS}
+use Rattle.form.specs.Limits.{IsOrderWithin}
 use Rattle.clearing_model.specs.Clearing.{Filled, AreFills}
 use Rattle.settlement.specs.declared.position.Position.{Position}
 use Rattle.portfolio_margin.specs.Owed.{IsDenominator, fills_of, owed_over}
@@ -52,18 +54,29 @@ abbrev pub EnoughIsAboveTrue : Type 0
 EnoughIsAboveTrue = (p : Portfolio) (need amount : ℕ) → IsTrueNeed p need → IsEnough p (pos amount) → need ≤ amount
 
 -- ---- accounts
--- a bound that is found for the market covers its exposure
-abbrev pub IsBounded : Portfolio → Type 0
-IsBounded p = (spent later : ℕ) (S : ℤ) → bound_of p.underlyings spent (summed p) ≡ Ok (S, later) → Covers p S
+-- a market on 1 to 8 underlyings, with live orders within the limits
+pub record IsTraded (p : Portfolio) : Type 0 where
+  pub some : 1 ≤ p.underlyings
+  pub few : p.underlyings ≤ MAX_UNDERLYINGS
+  pub orders : All IsOrderWithin p.live
 
-abbrev pub AreBounded : List Portfolio → Type 0
-AreBounded [] = Unit {0}
-AreBounded (p ∷ markets) = IsBounded p × AreBounded markets
+-- the bound that is found for it covers its exposure
+abbrev pub BoundsCover : Type 0
+BoundsCover =
+    (p : Portfolio) (spent later : ℕ) (S : ℤ) → IsTraded p → bound_of p.underlyings spent (summed p) ≡ Ok (S, later) → Covers p S
 
--- on one underlying it does
-abbrev pub LinesAreBounded : Type 0
-LinesAreBounded = (p : Portfolio) → p.underlyings ≡ 1 → IsBounded p
-
--- and then a balance that can pay the need secures the account
+-- so a balance that can pay the need secures the account
 abbrev pub PayingSecures : Type 0
-PayingSecures = (markets : List Portfolio) (balance : ℤ) → AreBounded markets → can_pay balance (need_of markets) ≡ true → IsSecured markets balance
+PayingSecures =
+    (markets : List Portfolio) (balance : ℤ) → All IsTraded markets → can_pay balance (need_of markets) ≡ true → IsSecured markets balance
+
+-- and the need is at least the true needs of all markets together
+abbrev pub AreTrueNeeds : List Portfolio → List ℕ → Type 0
+AreTrueNeeds [] [] = Unit {0}
+AreTrueNeeds [] (need ∷ needs) = ⊥
+AreTrueNeeds (p ∷ markets) [] = ⊥
+AreTrueNeeds (p ∷ markets) (need ∷ needs) = IsTrueNeed p need × AreTrueNeeds markets needs
+
+abbrev pub NeedIsAboveTrue : Type 0
+NeedIsAboveTrue =
+    (markets : List Portfolio) (needs : List ℕ) (amount : ℕ) → All IsTraded markets → AreTrueNeeds markets needs → need_of markets ≡ Ok amount → sum needs ≤ amount

@@ -1,5 +1,5 @@
 //! Laws over the definitions: each is the contract of a function that does nothing.
-ghost use Rattle.account_need.specs.Laws.{EnoughIsAboveTrue, GreatestBounds, GreatestIsReached, LineNeedIsEnough, LinesAreBounded, PayingSecures, RoundedOwesMore};
+ghost use Rattle.account_need.specs.Laws.{BoundsCover, EnoughIsAboveTrue, GreatestBounds, GreatestIsReached, LineNeedIsEnough, NeedIsAboveTrue, PayingSecures, RoundedOwesMore};
 ghost use Rattle.account_need.specs.Moves.{CancelsKeep, ClearsKeep, MoreIsSecured, MovesKeepSecured, SecuredCanPay, SettlementsKeep};
 ghost use Rattle.account_need.specs.Worked.{NeedsByHand, SumsByHand};
 ghost use Rattle.account_need.specs.WorkedAccounts.{BasketsByHand, RulesByHand};
@@ -59,15 +59,19 @@ pub fn more_is_secured()
     ensures { MoreIsSecured }
 {}
 
-/// The bound of a market on one underlying covers its exposure.
-pub fn lines_are_bounded()
-    ensures { LinesAreBounded }
+/// The bound that is found for a market covers its exposure, on one underlying and on several.
+pub fn bounds_cover()
+    ensures { BoundsCover }
 {}
 
-/// Where the bounds of all markets cover their exposures, a balance that can pay the need of an
-/// account secures it.
+/// So a balance that can pay the need of an account secures it.
 pub fn paying_secures()
     ensures { PayingSecures }
+{}
+
+/// And the need is at least the true needs of all markets together.
+pub fn need_is_above_true()
+    ensures { NeedIsAboveTrue }
 {}
 
 /// The definitions compute needs and sums that are worked by hand.

@@ -12,4 +12,5 @@ pub mod Promised
 pub mod Ruled
 pub mod StayingSafe
 pub mod Told
+pub mod ToldNeeds
 pub mod WorkedRules

@@ -36,7 +36,7 @@ use Rattle.secured_accounts.proofs.ListsOfOne.{own_placed}
 use Rattle.secured_accounts.proofs.Placing.{keys_placed, orders_elsewhere, orders_there, underlyings_placed}
 
 -- ---- a market
-orders_on : (book : BookState) → IsBookKept book → (market : ℕ) → All (IsOrderOn (underlyings_in book market + 1)) (live_of book market)
+pub orders_on : (book : BookState) → IsBookKept book → (market : ℕ) → All (IsOrderOn (underlyings_in book market + 1)) (live_of book market)
 orders_on book kept market = by (market_of book market) refl
   where
     by : (found : Option MarketState) → market_of book market ≡ found

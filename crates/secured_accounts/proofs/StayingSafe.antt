@@ -16,22 +16,21 @@ use Rattle.exchange_core.specs.Refusals.{refusal_of}
 use Rattle.exchange_core.specs.Step.{batch_in, effect, refusal_effect, step}
 use Rattle.exchange_core.proofs.Covered.{batch_is_within}
 use Rattle.exchange_core.proofs.Keeping.{clears_keep, step_keeps}
-use Rattle.account_need.specs.Account.{Need, portfolios}
-use Rattle.account_need.specs.Exposure.{IsSecured}
-use Rattle.account_need.proofs.Accounts.{paying_secures}
+use Rattle.account_need.specs.Account.{Need}
 use Rattle.secured_accounts.specs.declared.refusal.SecuringRefusal.{SecuringRefusal}
-use Rattle.secured_accounts.specs.Laws.{AreSafe, Asked, Charged, Covered, Event, Guarded, HasPrices, IsSafe, MayCome, SecuredStaySafe, Securing, after_event, guarded}
+use Rattle.secured_accounts.specs.Laws.{AreSafe, Asked, Charged, Event, Guarded, HasPrices, IsSafe, MayCome, SecuredStaySafe, Securing, after_event, guarded}
 use Rattle.secured_accounts.specs.Refusals.{secure_refusals}
-use Rattle.secured_accounts.specs.Secured.{account_of, is_enough, is_secured, risked_by, uncovered, with_secured}
+use Rattle.secured_accounts.specs.Secured.{is_enough, is_secured, risked_by, uncovered, with_secured}
 use Rattle.secured_accounts.proofs.AllMarkets.{for_all, for_own}
 use Rattle.secured_accounts.proofs.Batches.{cleared, settled}
 use Rattle.secured_accounts.proofs.Effects.{IsCovered, cancelled, deposited, listed, placed, withdrawn}
 use Rattle.secured_accounts.proofs.InOrder.{turned}
+use Rattle.secured_accounts.proofs.ToldNeeds.{told_is_enough}
 use Rattle.secured_accounts.proofs.Ruled.{enough_after, harms, secured_enough, secured_or_new}
 
 -- ---- the effect of a command that could not harm the account
 module _ (account : ℕ) (some : 1 ≤ account) (state : ExchangeState) (kept : IsKept state) where
-  effect_keeps : (command : Command) → IsWithin command → HasPrices command → refusal_of state command ≡ None → harms account (risked_by command) ≡ false
+  pub effect_keeps : (command : Command) → IsWithin command → HasPrices command → refusal_of state command ≡ None → harms account (risked_by command) ≡ false
       → IsCovered account state → IsCovered account (effect state command).1
   effect_keeps (Open other) within prices none harmless s = s
   effect_keeps (Deposit other amount) within prices none harmless s = deposited account state other amount s
@@ -50,19 +49,15 @@ module _ (account : ℕ) (some : 1 ≤ account) (state : ExchangeState) (kept : 
 
 -- ---- whatever is asked
 module _ (state : Guarded) (kept : IsKept state.exchange) where
-  -- the balance is enough for what the account has now
-  secures : (exchange : ExchangeState) (account : ℕ) → Covered exchange → is_enough exchange account ≡ true → IsSecured (portfolios (account_of exchange account)) (balance_of account exchange.entries)
-  secures exchange account covered enough = paying_secures (portfolios (account_of exchange account)) (balance_of account exchange.entries) (covered account) enough
-
   -- an account that is secured, once a command is accepted
   accepted : (account : ℕ) (command : Command) → is_secured state.secured account ≡ true → IsSafe state.exchange account → IsWithin command → HasPrices command → uncovered state.secured state.exchange command ≡ None
-      → refusal_of state.exchange command ≡ None → Covered (effect state.exchange command).1 → IsSafe (effect state.exchange command).1 account
-  accepted account command own safe within prices through none covered = by (harms account (risked_by command)) refl
+      → refusal_of state.exchange command ≡ None → IsKept (effect state.exchange command).1 → IsSafe (effect state.exchange command).1 account
+  accepted account command own safe within prices through none keeps = by (harms account (risked_by command)) refl
     where
       by : (b : Bool) → harms account (risked_by command) ≡ b → IsSafe (effect state.exchange command).1 account
       by true harmed = record {
         trader = safe.trader;
-        above = secures (effect state.exchange command).1 account covered (enough_after state.secured state.exchange command account own none (risked_by command) through harmed);
+        above = told_is_enough (effect state.exchange command).1 account keeps (enough_after state.secured state.exchange command account own none (risked_by command) through harmed);
       }
       by false harmless = record {
         trader = safe.trader;
@@ -82,26 +77,24 @@ module _ (state : Guarded) (kept : IsKept state.exchange) where
   -- a command that is let through, whether it is accepted or not
   stepped : (command : Command) → MayCome state (Asked command) → uncovered state.secured state.exchange command ≡ None → AreSafe state
       → (refused : Option Refusal) → refusal_of state.exchange command ≡ refused
-      → Covered (option_map_or (refusal_effect state.exchange) refused (effect state.exchange command)).1
       → IsKept (option_map_or (refusal_effect state.exchange) refused (effect state.exchange command)).1
       → Stays (guarded (option_map_or (refusal_effect state.exchange) refused (effect state.exchange command)).1 state.secured)
-  stepped command may through safe None none covered keeps = record {
-    safe = λ account own. accepted account command own (safe account own) may.0 may.1 through none covered;
+  stepped command may through safe None none keeps = record {
+    safe = λ account own. accepted account command own (safe account own) may.0 may.1 through none keeps;
     keeps = keeps;
   }
-  stepped command may through safe (Some refusal) told covered keeps = unchanged safe
+  stepped command may through safe (Some refusal) told keeps = unchanged safe
 
   asked : (command : Command) → MayCome state (Asked command) → AreSafe state
       → (need : Option Need) → uncovered state.secured state.exchange command ≡ need
-      → Covered (if is_some need then state else guarded (step state.exchange command).1 state.secured).exchange
       → Stays (if is_some need then state else guarded (step state.exchange command).1 state.secured)
-  asked command may safe (Some need) told covered = unchanged safe
-  asked command may safe None through covered =
-      stepped command may through safe (refusal_of state.exchange command) refl covered (step_keeps state.exchange command kept may.0)
+  asked command may safe (Some need) told = unchanged safe
+  asked command may safe None through =
+      stepped command may through safe (refusal_of state.exchange command) refl (step_keeps state.exchange command kept may.0)
 
-  stays : (e : Event) → MayCome state e → Covered (after_event state e).exchange → AreSafe state → Stays (after_event state e)
-  stays (Asked command) may covered safe = asked command may safe (uncovered state.secured state.exchange command) refl covered
-  stays (Charged market fills) may covered safe = record {
+  stays : (e : Event) → MayCome state e → AreSafe state → Stays (after_event state e)
+  stays (Asked command) may safe = asked command may safe (uncovered state.secured state.exchange command) refl
+  stays (Charged market fills) may safe = record {
     safe = λ account own.
         let before = safe account own in
         record {
@@ -112,7 +105,7 @@ module _ (state : Guarded) (kept : IsKept state.exchange) where
         };
     keeps = clears_keep state.exchange market fills kept may.0 may.1;
   }
-  stays (Securing new) may covered safe = by (first_of (secure_refusals state.exchange new)) refl
+  stays (Securing new) may safe = by (first_of (secure_refusals state.exchange new)) refl
     where
       by : (refused : Option SecuringRefusal) → first_of (secure_refusals state.exchange new) ≡ refused
           → Stays (guarded state.exchange (option_map_or (λ refusal. state.secured) refused (with_secured state.secured new)))
@@ -122,7 +115,7 @@ module _ (state : Guarded) (kept : IsKept state.exchange) where
             ⊎_elim (λ before. safe account before)
             (λ (is : new ≡ account). record {
               trader = subst (λ (n : ℕ). 1 ≤ n) is may.0;
-              above = secures state.exchange account covered (subst (λ (n : ℕ). is_enough state.exchange n ≡ true) is (secured_enough state.exchange new none));
+              above = told_is_enough state.exchange account kept (subst (λ (n : ℕ). is_enough state.exchange n ≡ true) is (secured_enough state.exchange new none));
             })
             (secured_or_new account state.secured new own);
         keeps = kept;
@@ -131,5 +124,5 @@ module _ (state : Guarded) (kept : IsKept state.exchange) where
 pub secured_stay_safe : SecuredStaySafe
 secured_stay_safe state [] kept safe coming = safe
 secured_stay_safe state (e ∷ events) kept safe coming =
-    let first = stays state kept e coming.0 coming.1 safe in
-    secured_stay_safe (after_event state e) events first.keeps first.safe coming.2
+    let first = stays state kept e coming.0 safe in
+    secured_stay_safe (after_event state e) events first.keeps first.safe coming.1

@@ -11,15 +11,13 @@ use Rattle.frac.specs.Value.{fraction_of}
 use Rattle.lists.specs.Refusals.{first_of}
 use Rattle.order_book.specs.Refusals.{batch_refusals}
 use Rattle.exchange_core.specs.ExchangeState.{ExchangeState}
-use Rattle.exchange_core.specs.Held.{underlyings_in}
 use Rattle.exchange_core.specs.Kept.{IsKept}
 use Rattle.exchange_core.specs.Refusals.{by_book}
 use Rattle.exchange_core.specs.Step.{batch_in, cleared_with, step}
 use Rattle.account_need.specs.Account.{portfolios}
 use Rattle.account_need.specs.Exposure.{IsSecured}
-use Rattle.account_need.specs.Laws.{AreBounded}
 use Rattle.secured_accounts.specs.Refusals.{after_securing}
-use Rattle.secured_accounts.specs.Secured.{account_of, is_secured, uncovered}
+use Rattle.secured_accounts.specs.Secured.{account_of, is_enough, is_secured, uncovered}
 
 -- an exchange, and its secured accounts
 pub record Guarded : Type 0 where
@@ -72,23 +70,10 @@ MayCome state (Charged market fills) =
     × AreFractionFills (batch_in state.exchange market).orders (map fraction_of fills)
 MayCome state (Securing account) = IsAccount account
 
--- ---- the premise
--- the bound that is found for a market of an account covers its exposure there
-abbrev pub Covered : ExchangeState → Type 0
-Covered exchange = (account : ℕ) → AreBounded (portfolios (account_of exchange account))
-
--- so it is where all markets are on one underlying
-abbrev pub AreLines : ExchangeState → Type 0
-AreLines exchange = (market : ℕ) → underlyings_in exchange.book market ≡ 1
-
-abbrev pub LinesAreCovered : Type 0
-LinesAreCovered = (exchange : ExchangeState) → AreLines exchange → Covered exchange
-
--- events as they may come, each of which leaves a state where bounds cover
+-- events as they may come
 abbrev pub AreComing : Guarded → List Event → Type 0
 AreComing state [] = ⊤
-AreComing state (event ∷ events) =
-    MayCome state event × Covered (after_event state event).exchange × AreComing (after_event state event) events
+AreComing state (event ∷ events) = MayCome state event × AreComing (after_event state event) events
 
 -- ---- the promises
 -- the account is a trader's, and its balance is at or above its true need
@@ -98,6 +83,12 @@ pub record IsSafe (exchange : ExchangeState) (account : ℕ) : Type 0 where
 
 abbrev pub AreSafe : Guarded → Type 0
 AreSafe state = (account : ℕ) → is_secured state.secured account ≡ true → IsSafe state.exchange account
+
+-- where the need that is told of an account is covered by its balance, it is
+abbrev pub ToldIsEnough : Type 0
+ToldIsEnough =
+    (exchange : ExchangeState) (account : ℕ) → IsKept exchange → is_enough exchange account ≡ true
+    → IsSecured (portfolios (account_of exchange account)) (balance_of account exchange.entries)
 
 -- what holds after any such events
 abbrev pub Always : (Guarded → Type 0) → Type 0

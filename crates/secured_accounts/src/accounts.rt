@@ -84,6 +84,15 @@ impl SecuredAccounts {
         Ok(())
     }
 
+    /// Secures an account that was just opened, for good: it has nothing yet, and so needs nothing.
+    /// The only error is want of memory.
+    pub fn secure_opened(&mut self, account: u32) -> Result<(), AllocError>
+        ensures ok { OnOk result (self.new ≡ with_secured self.old account) }
+        ensures err { OnErr result (self.new ≡ self.old) }
+    {
+        self.add(account)
+    }
+
     /// Secures an account, for good, and answers its need, which is an amount. One that is secured
     /// stays so either way. The only error is want of memory.
     ///

@@ -1,11 +1,16 @@
 //! Laws over the definition of secured accounts: each is the contract of a function that does
 //! nothing.
 
-ghost use Rattle.secured_accounts.specs.Laws.{LinesAreCovered, SecuredCanPay, SecuredStaySafe, TradersCanPay};
+ghost use Rattle.secured_accounts.specs.Laws.{SecuredCanPay, SecuredStaySafe, ToldIsEnough, TradersCanPay};
 ghost use Rattle.secured_accounts.specs.Worked.{OffersByHand, RulesByHand};
 
+/// A balance that can pay the need that is told of an account is at or above its true need.
+pub fn told_is_enough()
+    ensures { ToldIsEnough }
+{}
+
 /// The balance of a secured account stays at or above its true need, whatever is asked and whatever
-/// is cleared or settled, as far as the bounds by which its need is told cover its exposures.
+/// is cleared or settled.
 pub fn secured_stay_safe()
     ensures { SecuredStaySafe }
 {}
@@ -18,11 +23,6 @@ pub fn secured_can_pay()
 /// Where all traders are secured, whoever owes can pay.
 pub fn traders_can_pay()
     ensures { TradersCanPay }
-{}
-
-/// Where all markets are on one underlying, the bounds cover the exposures.
-pub fn lines_are_covered()
-    ensures { LinesAreCovered }
 {}
 
 /// What is kept from a small exchange, and what is not: worked rows.
