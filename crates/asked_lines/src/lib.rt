@@ -5,6 +5,8 @@
 mod asked;
 pub mod laws;
 mod questions;
+mod requests;
 
 pub use asked::AskedLines;
 pub use questions::AnswersQuestions;
+pub use requests::may_be_asked;

@@ -6,3 +6,5 @@ pub mod Served
 pub mod Sessions
 pub mod Standing
 pub mod Texts
+pub mod Questions
+pub mod Worked

@@ -1,5 +1,6 @@
 //! Laws over the answers to any input: each is the contract of a function that does nothing.
 ghost use Rattle.session_lines.specs.Laws.{OutputsAreAnswers, OutputsTellOnce};
+ghost use Rattle.session_lines.specs.Worked.{QuestionsByHand};
 
 use live_lines::LineSteps;
 
@@ -14,4 +15,9 @@ pub fn outputs_are_answers<A: LineSteps>()
 /// First before, with the same reply.
 pub fn outputs_tell_once<A: LineSteps>()
     ensures { OutputsTellOnce A.step }
+{}
+
+/// What a session asks is told beside it, known or not: worked rows.
+pub fn questions_by_hand()
+    ensures { QuestionsByHand }
 {}

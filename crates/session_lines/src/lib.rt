@@ -5,8 +5,10 @@
 mod bodies;
 pub mod laws;
 pub mod messages;
+mod questions;
 mod sessions;
 pub mod texts;
 
 pub use bodies::AnswersMessages;
+pub use questions::AsksBodies;
 pub use sessions::{SessionLines, kept_reply, without_feed};

@@ -4,6 +4,7 @@ ghost use Rattle.std.specs.Option.{option_map};
 ghost use Rattle.session_gate.specs.Bodies.{is_body};
 ghost use Rattle.session_gate.specs.Gate.{IsSession, IsNumber, message_of};
 ghost use Rattle.session_lines.specs.Messages.{at_comma, number_to, message_in};
+ghost use Rattle.session_lines.specs.Questions.{question_in};
 
 use command_text::{NumberRead, number};
 use limits::{MAX_MESSAGE, MAX_SESSION};
@@ -60,4 +61,26 @@ pub fn message(line: &[u8]) -> Option<Sent<'_>>
         number,
         body,
     })
+}
+
+/// What a session asks.
+#[derive(Clone, Copy, Debug)]
+pub struct Asked<'a> {
+    /// The number of the session.
+    pub session: u32,
+    /// What it asks.
+    pub body: &'a [u8],
+}
+
+/// What a line says as a question: SESSION,BODY, split at its first comma. `None` where it is none.
+pub fn question(line: &[u8]) -> Option<Asked<'_>>
+    ensures says { option_map (λ q. (q.session, q.body.now)) result ≡ question_in line.now }
+    ensures within { IfSome result (λ q. IsTrue (is_body q.body.now)) }
+{
+    let (session, body) = at_comma(line)?;
+    let session = number_to(MAX_SESSION, session)?;
+    if !is_body(body) {
+        return None;
+    }
+    Some(Asked { session, body })
 }

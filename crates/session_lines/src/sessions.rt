@@ -22,8 +22,8 @@ use std::marker::Model;
 /// input.
 #[derive(Drop)]
 pub struct SessionLines<A: AnswersMessages> {
-    gate: Gate,
-    bodies: A,
+    pub(crate) gate: Gate,
+    pub(crate) bodies: A,
 }
 
 impl<A: AnswersMessages> Model for SessionLines<A> {

@@ -2,6 +2,7 @@
 ghost use Rattle.std.specs.Prelude.{◌≡◌, IfOk, string_bytes};
 ghost use Rattle.std.specs.Option.{option_map};
 ghost use Rattle.session_gate.specs.Gate.{message_of};
+ghost use Rattle.session_lines.specs.Questions.{asked_tail, asked_text};
 ghost use Rattle.session_lines.specs.Texts.{accepted_head, accepted_tail, accepted_text, answer_text, expecting_text, malformed_text, refusal_text, refused_text, sessions_text};
 
 use crate::messages::Sent;
@@ -123,4 +124,23 @@ pub(crate) fn print_told(
         Some(text) => Ok(text.into_bytes()),
         None => print_accepted(alloc, sent.session, sent.number, reply),
     }
+}
+
+// The end of the line of an answer to what a session asks.
+fn print_asked_tail(alloc: Global, session: u32) -> Result<String, AllocError>
+    ensures { IfOk result (λ text. string_bytes text ≡ asked_tail session) }
+{
+    format!(in alloc; ",\"reply\":\"asked\",\"session\":{session}}}\n")
+}
+
+/// The line that tells what a session is answered that asks.
+pub fn print_asked(alloc: Global, session: u32, reply: &[u8]) -> Result<Vec<u8>, AllocError>
+    ensures { IfOk result (λ text. text.items ≡ asked_text session reply.now) }
+{
+    let tail = print_asked_tail(alloc, session)?;
+    let mut text = Vec::new(alloc);
+    text.extend_from_slice(b"{\"of\":")?;
+    text.extend_from_slice(reply)?;
+    text.extend_from_slice(tail.as_bytes())?;
+    Ok(text)
 }
