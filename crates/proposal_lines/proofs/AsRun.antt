@@ -45,6 +45,7 @@ module _ (number : ℕ) (state : ExchangeState) (heard : Body) where
   said_as_run (Ok (asks.Command c)) is = by_margin (Ok (asks.Command c)) is
   said_as_run (Ok (asks.Quote request)) is = with_more IsQuoteText IsBesideText number state heard _ (λ is. inl is) (quote_told number state heard request)
   said_as_run (Ok (asks.Price request)) is = with_more IsPriceText IsBesideText number state heard _ (λ is. inr (inl is)) (prices_told_of number state heard request)
+  said_as_run (Ok (asks.Try request)) is = by_margin (Ok (asks.Try request)) is
   said_as_run (Ok (asks.Margin request)) is = by_margin (Ok (asks.Margin request)) is
   said_as_run (Ok (asks.Book market)) is = by_margin (Ok (asks.Book market)) is
   said_as_run (Ok (asks.Positions account market)) is = by_margin (Ok (asks.Positions account market)) is

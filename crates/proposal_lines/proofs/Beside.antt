@@ -1,8 +1,9 @@
--- What is told of what is read, and of refusals, tells of nothing that is taken.
+-- What is told of what is read or tried, and of refusals, tells of nothing that is taken.
 use Rattle.std.proofs.Common.{◌≡◌, ◌++◌, ◌∷◌, [], ℕ, List, Bool, Option, Some, None, inl, inr, refl, ap}
 use Rattle.std.specs.Option.{option_map_or}
 use Rattle.command_text.specs.declared.asked.Fault.{Fault}
 use Rattle.command_text.specs.declared.asked.Fault.TheVariants.{Syntax, Range}
+use Rattle.command_text.specs.declared.requests.TryRequest.{TryRequest}
 use Rattle.exchange_core.specs.ExchangeState.{ExchangeState}
 use Rattle.exchange_core.specs.Held.{positions_of}
 use Rattle.exchange_core.specs.Reply.{refused_with}
@@ -11,10 +12,13 @@ use Rattle.exchange_core.specs.declared.refusal.Refusal.{Refusal}
 use Rattle.exchange_core.specs.declared.refusal.Refusal.TheVariants as refusal
 use Rattle.lists.specs.Refusals.{first_of}
 use Rattle.proposal_text.specs.declared.replies.ProposalReply.TheVariants as told
+use Rattle.quote_lines.specs.Refusals.{quote_refusals}
+use Rattle.quote_lines.specs.Replies.{tried_for}
 use Rattle.reply_print.specs.ReplyPieces.{reply_line}
 use Rattle.proposal_lines.specs.Output.{proposing_reply_line}
 use Rattle.proposal_lines.specs.Answers.{TakesNothing, IsBesideProposals}
 use Rattle.proposal_lines.specs.Reads.{book_refusals, book_reply, positions_refusals, positions_reply, refused_by, refused_by_fault, unless_refused}
+use Rattle.proposal_lines.specs.Trials.{trial_of, trial_reply}
 use Rattle.proposal_lines.specs.declared.replies.ProposingReply.{ProposingReply}
 use Rattle.proposal_lines.specs.declared.replies.ProposingReply.TheVariants.{Plain, Told}
 
@@ -35,7 +39,7 @@ fault_beside (Range field) = (refusal.Range field, refl)
 pub refusal_beside : (first : Refusal) → IsBeside (refused_by first)
 refusal_beside first = (first, refl)
 
--- ---- a read
+-- ---- a read, and a trial
 unless_beside : (refusals : List (Bool × Refusal)) (reply : ProposingReply) → IsBeside reply → IsBeside (unless_refused refusals reply)
 unless_beside refusals reply is = elim (first_of refusals) as (λ (r : Option Refusal). IsBeside (option_map_or refused_by r reply)) [
   | None ↦ is
@@ -48,3 +52,8 @@ book_beside exchange market = unless_beside (book_refusals exchange market) (Tol
 pub positions_beside : (exchange : ExchangeState) (account market : ℕ) → IsBeside (positions_reply exchange account market)
 positions_beside exchange account market =
     unless_beside (positions_refusals exchange account market) (Told (told.Positions account market (positions_of account market exchange.positions))) tt
+
+pub trial_beside : (exchange : ExchangeState) (request : TryRequest) → IsBeside (trial_reply exchange request)
+trial_beside exchange request =
+    unless_beside (quote_refusals exchange.book request.quote)
+    (Told (told.Tried request.quote.market (trial_of (tried_for (batch_in exchange request.quote.market) request)))) tt

@@ -16,6 +16,7 @@ use Rattle.proposal_lines.specs.Output.{proposing_line, proposing_reply_line, se
 use Rattle.proposal_lines.specs.Proposed.{proposed_of, proposed_reply}
 use Rattle.proposal_lines.specs.ProposingState.{ProposingState}
 use Rattle.proposal_lines.specs.Reads.{book_reply, positions_reply}
+use Rattle.proposal_lines.specs.Trials.{trial_reply}
 use Rattle.proposal_lines.specs.declared.replies.ProposingReply.{ProposingReply}
 use Rattle.proposal_lines.proofs.SaidKinds.{by_kind}
 
@@ -36,6 +37,7 @@ said_ends : (number : ℕ) (state : ExchangeState) (said : Result Request Fault)
 said_ends number state (Ok (asks.Quote request)) = quotes_ends number state (Ok (asks.Quote request))
 said_ends number state (Ok (asks.Price request)) = quotes_ends number state (Ok (asks.Price request))
 said_ends number state (Ok (asks.Command c)) = guarded_ends number state (Ok (asks.Command c))
+said_ends number state (Ok (asks.Try request)) = guarded_ends number state (Ok (asks.Try request))
 said_ends number state (Ok (asks.Margin request)) = guarded_ends number state (Ok (asks.Margin request))
 said_ends number state (Ok (asks.Book market)) = guarded_ends number state (Ok (asks.Book market))
 said_ends number state (Ok (asks.Positions account market)) = guarded_ends number state (Ok (asks.Positions account market))
@@ -53,5 +55,6 @@ ends_lines number state line =
     (λ market budget. written_ends number (clear_reply state market budget))
     (λ market. written_ends number (book_reply state.exchange market, state))
     (λ account market. written_ends number (positions_reply state.exchange account market, state))
+    (λ request. written_ends number (trial_reply state.exchange request, state))
     (λ said other. subst (λ (now : List ℕ × ProposingState). Ends now.0) (sym (other.served number state line)) (said_ends number state.exchange said))
     (said_in SERVED line)

@@ -294,6 +294,7 @@ module _ (market : ℕ) (exchange : ExchangeState) (one other : KeptProposals) (
         (λ cleared budget none. by cleared budget (nat_eq cleared market) refl none)
         (λ read none stay. unchanged)
         (λ account read none stay. unchanged)
+        (λ request none stay. unchanged)
         (λ said other none.
         let same : (λ (state : ProposingState). other_line number state said) ≡ (λ (state : ProposingState). served_line number state line said) =
         λ i state. sym (other.served number state line) i in

@@ -19,3 +19,4 @@ pub mod Ends
 pub mod Without
 pub mod Charging
 pub mod UsingBest
+pub mod ToldAlone

@@ -1,5 +1,5 @@
--- The kinds of what a line says: a proposal, a clear, a read, and all else, which is answered as
--- where nothing is read or proposed.
+-- The kinds of what a line says: a proposal, a clear, a read, a trial, and all else, which is answered
+-- as where nothing is read or proposed.
 use Rattle.std.proofs.Common.{◌≡◌, ℕ, List, Option, Some, None, Result, Ok, Err, inl, inr, refl}
 use Rattle.std.specs.Prelude.{◌⊎◌}
 use Rattle.std.specs.Option.{option_map_or}
@@ -9,6 +9,7 @@ use Rattle.command_text.specs.declared.command.Command.TheVariants.{Open, Deposi
 use Rattle.command_text.specs.declared.requests.ProposeRequest.{ProposeRequest}
 use Rattle.command_text.specs.declared.requests.Request.{Request}
 use Rattle.command_text.specs.declared.requests.Request.TheVariants as asks
+use Rattle.command_text.specs.declared.requests.TryRequest.{TryRequest}
 use Rattle.exchange_core.specs.declared.refusal.Refusal.{Refusal}
 use Rattle.exchange_core.specs.ExchangeState.{ExchangeState}
 use Rattle.exchange_core.specs.Refusals.{refusal_of}
@@ -39,6 +40,7 @@ module _ (P : Result Request Fault → Type 0)
     (clear : (market budget : ℕ) → P (Ok (asks.Command (Clear market budget))))
     (book : (market : ℕ) → P (Ok (asks.Book market)))
     (positions : (account market : ℕ) → P (Ok (asks.Positions account market)))
+    (trial : (request : TryRequest) → P (Ok (asks.Try request)))
     (other : (said : Result Request Fault) → IsOther said → P said) where
   by_refusal : (c : Command) (state : ProposingState) (r : Option Refusal) → IsUnbeaten state (effect state.exchange c).0
       → IsUnbeaten state (option_map_or (refusal_effect state.exchange) r (effect state.exchange c)).0
@@ -57,6 +59,7 @@ module _ (P : Result Request Fault → Type 0)
   by_kind (Ok (asks.Propose request)) = propose request
   by_kind (Ok (asks.Book market)) = book market
   by_kind (Ok (asks.Positions account market)) = positions account market
+  by_kind (Ok (asks.Try request)) = trial request
   by_kind (Ok (asks.Command (Clear market budget))) = clear market budget
   by_kind (Ok (asks.Command (Open account))) = command (Open account) (λ number state line. refl) (λ state. tt)
   by_kind (Ok (asks.Command (Deposit account amount))) = command (Deposit account amount) (λ number state line. refl) (λ state. tt)

@@ -61,8 +61,9 @@ use Rattle.proposal_lines.specs.Proposed.{after_proposed, kept_by, offered, prop
 use Rattle.proposal_lines.specs.ProposingState.{ProposingState, empty_state}
 use Rattle.proposal_lines.specs.Proved.{IsEntryProved}
 use Rattle.proposal_lines.specs.Reads.{book_reply, positions_reply, refused_by, refused_by_fault}
+use Rattle.proposal_lines.specs.Trials.{trial_reply}
 use Rattle.proposal_lines.proofs.AskedLines.{asked_told}
-use Rattle.proposal_lines.proofs.Beside.{IsBeside, beside_text, book_beside, fault_beside, positions_beside, refusal_beside}
+use Rattle.proposal_lines.proofs.Beside.{IsBeside, beside_text, book_beside, fault_beside, positions_beside, refusal_beside, trial_beside}
 use Rattle.proposal_lines.proofs.Clearing.{clears_are_proved}
 use Rattle.proposal_lines.proofs.SaidKinds.{IsOther, IsUnbeaten, by_kind}
 use Rattle.proposal_lines.proofs.SoundAfter.{beside_sound, bounded_sound, replied_sound, taken_sound}
@@ -278,6 +279,7 @@ module _ (state : ProposingState) (line : InputLine) (sound : IsSound state) whe
       (λ market budget is. clear_told market budget (command_to_run SERVED line.bytes (Clear market budget) is))
       (λ market is. told_beside (book_reply state.exchange market) (book_beside state.exchange market))
       (λ account market is. told_beside (positions_reply state.exchange account market) (positions_beside state.exchange account market))
+      (λ request is. told_beside (trial_reply state.exchange request) (trial_beside state.exchange request))
       other_told (said_in SERVED line.bytes) refl
     where
       told_beside : (reply : ProposingReply) → IsBeside reply → Told (written_reply line.number (reply, state))

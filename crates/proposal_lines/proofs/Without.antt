@@ -68,6 +68,7 @@ said_alone number exchange line =
     (λ market budget none. clear_alone number exchange market budget)
     (λ market none. refl)
     (λ account market none. refl)
+    (λ request none. refl)
     (λ said other none. other.served number (alone exchange) line ∙ ap with_none (sym (other.reading number exchange)))
 
 line_alone : (exchange : ExchangeState) (line : InputLine) → ProposesNothing line → proposing_line line.number (alone exchange) line.bytes ≡ with_none (reading_line line.number exchange line.bytes)

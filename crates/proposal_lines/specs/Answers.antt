@@ -8,8 +8,10 @@ use Rattle.lists.specs.Refusals.{first_of}
 use Rattle.order_book.specs.Numbers.{numbers_of}
 use Rattle.order_book.specs.Refusals.{live_refusals}
 use Rattle.proposals.specs.declared.best.Best.{Best}
-use Rattle.quote_lines.specs.Laws.{TellsPrices, TellsQuote}
+use Rattle.option_quotes.specs.Tried.{IsTried}
+use Rattle.quote_lines.specs.Laws.{TellsPrices, TellsQuote, tried_order}
 use Rattle.quote_lines.specs.Refusals.{quote_refusals}
+use Rattle.quote_lines.specs.Replies.{tried_for}
 use Rattle.proposal_lines.specs.AllKinds.{IsBesideText}
 use Rattle.command_text.specs.declared.command.Body.TheVariants.{Command}
 use Rattle.command_text.specs.declared.command.Command.TheVariants.{Clear}
@@ -25,6 +27,7 @@ use Rattle.command_text.specs.declared.requests.PriceRequest.{PriceRequest}
 use Rattle.command_text.specs.declared.requests.ProposeRequest.{ProposeRequest}
 use Rattle.command_text.specs.declared.requests.QuoteRequest.{QuoteRequest}
 use Rattle.command_text.specs.declared.requests.Request.TheVariants as asks
+use Rattle.command_text.specs.declared.requests.TryRequest.{TryRequest}
 use Rattle.command_text.specs.declared.words.TheConstants.{SERVED}
 use Rattle.form.specs.declared.orders.Batch.{Batch}
 use Rattle.exchange_lines.specs.GainRuns.{IfClears}
@@ -40,6 +43,7 @@ use Rattle.proposal_lines.specs.Output.{proposing_line}
 use Rattle.proposal_lines.specs.declared.proposed.Proposed.{Proposed}
 use Rattle.proposal_lines.specs.Proposed.{after_proposed, proposed_of, told_bound}
 use Rattle.proposal_lines.specs.ProposingState.{ProposingState}
+use Rattle.proposal_lines.specs.Trials.{trial_of}
 
 -- ---- of each line
 -- a batch that was cleared as proposals had it, in place of the reference run's outcome within the
@@ -155,13 +159,25 @@ IsToldFor state line (bounded answer) after = IsBoundedFor state line answer aft
 IsToldFor state line (taken answer) after = IsTakenFor state line answer after
 IsToldFor state line (beside number text) after = IsBesideFor state line number text after
 
+-- what is written is a tried line, of what a clear of the live orders with the order at their end
+-- tells: its fills cover its surplus, and the order's is from 0 to its quantity; and the exchange is
+-- as it was
+abbrev pub TellsTrial : ℕ → ExchangeState → TryRequest → List ℕ × ExchangeState → Type 0
+TellsTrial number state request written =
+    (let batch = batch_in state request.quote.market in
+    let tried = tried_for batch request in
+    (written ≡ (proposal_line number (told.Tried request.quote.market (trial_of tried)) ++ 10 ∷ [], state)) × IsTried batch (tried_order request) tried)
+
 -- a line that asks for a quote, or for prices, and meets no refusal is told prices from which on a
--- further order raises the greatest surplus of the live orders
+-- further order raises the greatest surplus of the live orders; one that tries an order is told what
+-- a clear with it tells
 pub record TellsAsked (state : ProposingState) (line : InputLine) (written : List ℕ × ExchangeState) : Type 0 where
   pub quote : (request : QuoteRequest) → said_in SERVED line.bytes ≡ Ok (asks.Quote request) → first_of (quote_refusals state.exchange.book request) ≡ None
       → TellsQuote line.number state.exchange request written
   pub prices : (request : PriceRequest) → said_in SERVED line.bytes ≡ Ok (asks.Price request) → first_of (quote_refusals state.exchange.book request.quote) ≡ None
       → TellsPrices line.number state.exchange request written
+  pub trial : (request : TryRequest) → said_in SERVED line.bytes ≡ Ok (asks.Try request) → first_of (quote_refusals state.exchange.book request.quote) ≡ None
+      → TellsTrial line.number state.exchange request written
 
 -- the state after lines, from one on, by a way of answering
 abbrev pub state_by : {S : Type 0} → (ℕ → S → List ℕ → List ℕ × S) → S → List InputLine → S

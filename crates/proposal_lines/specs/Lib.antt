@@ -5,6 +5,7 @@ pub mod ProposingState
 pub mod Reads
 pub mod Proposed
 pub mod Clears
+pub mod Trials
 pub mod Output
 pub mod Proved
 pub mod Laws
@@ -12,3 +13,5 @@ pub mod Answers
 pub mod UsesBest
 pub mod Promises
 pub mod LaterClears
+pub mod Reading
+pub mod Asked

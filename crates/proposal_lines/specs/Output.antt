@@ -3,7 +3,7 @@ use Rattle.std.specs.Prelude.{ℕ, List, [], ◌∷◌, ◌++◌, Result, Ok}
 use Rattle.command_text.specs.declared.asked.Fault.{Fault}
 use Rattle.command_text.specs.declared.command.Command.TheVariants.{Clear, Withdraw}
 use Rattle.command_text.specs.declared.requests.Request.{Request}
-use Rattle.command_text.specs.declared.requests.Request.TheVariants.{Command, Book, Positions, Propose}
+use Rattle.command_text.specs.declared.requests.Request.TheVariants.{Command, Book, Positions, Propose, Try}
 use Rattle.command_text.specs.declared.words.TheConstants.{SERVED}
 use Rattle.command_text.specs.Said.{said_in}
 use Rattle.exchange_core.specs.Step.{step}
@@ -14,6 +14,7 @@ use Rattle.proposal_lines.specs.Clears.{clear_reply}
 use Rattle.proposal_lines.specs.Proposed.{proposed_of, proposed_reply}
 use Rattle.proposal_lines.specs.ProposingState.{ProposingState}
 use Rattle.proposal_lines.specs.Reads.{book_reply, positions_reply}
+use Rattle.proposal_lines.specs.Trials.{trial_reply}
 use Rattle.proposal_lines.specs.declared.replies.ProposingReply.{ProposingReply}
 use Rattle.proposal_lines.specs.declared.replies.ProposingReply.TheVariants.{Plain, Told}
 
@@ -43,6 +44,7 @@ served_line number state line (Ok (Propose request)) = written_reply number (pro
 served_line number state line (Ok (Command (Clear market budget))) = written_reply number (clear_reply state market budget)
 served_line number state line (Ok (Book market)) = written_reply number (book_reply state.exchange market, state)
 served_line number state line (Ok (Positions account market)) = written_reply number (positions_reply state.exchange account market, state)
+served_line number state line (Ok (Try request)) = written_reply number (trial_reply state.exchange request, state)
 served_line number state line said = other_line number state said
 
 abbrev pub proposing_line : ℕ → ProposingState → List ℕ → List ℕ × ProposingState

@@ -4,7 +4,6 @@ use Rattle.std.specs.List.{All}
 use Rattle.proposal_check.specs.ProposalLaws.{Proves}
 use Rattle.frac.specs.Value.{fraction_of}
 use Rattle.proposals.specs.Laws.{as_proposal}
-use Rattle.proposal_lines.specs.AllKinds.{said_line}
 use Rattle.cert_check.specs.declared.outcome.Mark.TheVariants.{Budget}
 use Rattle.cert_check.specs.declared.outcome.Outcome.{Outcome}
 use Rattle.clearing.specs.Outcome.{outcome_of}
@@ -23,9 +22,8 @@ use Rattle.proposal_text.specs.declared.replies.BoundedOutcome.{BoundedOutcome}
 use Rattle.reply_print.specs.declared.replies.Reply.{Reply}
 use Rattle.reply_print.specs.declared.replies.Reply.TheVariants.{Cleared}
 use Rattle.proposal_lines.specs.Laws.{IsBetter, IsSound}
-use Rattle.proposal_lines.specs.Output.{proposing_line, proposing_reply_line}
-use Rattle.proposal_lines.specs.declared.replies.ProposingReply.{ProposingReply}
-use Rattle.proposal_lines.specs.Reads.{book_reply, positions_reply}
+use Rattle.proposal_lines.specs.Output.{proposing_line}
+pub use Rattle.proposal_lines.specs.Reading.{reading_line, reading_said}
 use Rattle.proposal_lines.specs.ProposingState.{ProposingState, empty_state}
 pub use Rattle.proposal_lines.specs.Answers.{IsToldFor, ProposalAnswer, TellsAsked, beside, bounded, replied, state_by, taken}
 use Rattle.proposal_lines.specs.Answers.{AreToldFor, TakenAnswer, told_texts}
@@ -86,19 +84,6 @@ abbrev pub OutputsTellProposals : Type 0
 OutputsTellProposals = (input : List ℕ) → TellProposals input (proposing_output input)
 
 -- ---- where nothing is proposed
--- what is written where no proposals are taken: a line that reads is told what it asks for, and any
--- other is answered as ever
-abbrev pub told_reply : ℕ → ExchangeState → ProposingReply → List ℕ × ExchangeState
-told_reply number exchange reply = (proposing_reply_line number reply ++ 10 ∷ [], exchange)
-
-abbrev pub reading_said : ℕ → ExchangeState → Result Request Fault → List ℕ × ExchangeState
-reading_said number exchange (Ok (asks.Book market)) = told_reply number exchange (book_reply exchange market)
-reading_said number exchange (Ok (asks.Positions account market)) = told_reply number exchange (positions_reply exchange account market)
-reading_said number exchange said = said_line number exchange said
-
-abbrev pub reading_line : ℕ → ExchangeState → List ℕ → List ℕ × ExchangeState
-reading_line number exchange line = reading_said number exchange (said_in SERVED line)
-
 abbrev pub ProposesNothing : InputLine → Type 0
 ProposesNothing line = (request : ProposeRequest) → said_in SERVED line.bytes ≡ Ok (asks.Propose request) → ⊥
 

@@ -1,16 +1,17 @@
--- What is told of a market's live orders, and of an account's positions in it.
+-- What is told of a market's live orders, of an account's positions in it, and of its balance.
 use Rattle.std.specs.Prelude.{ℕ, Bool, List, ◌++◌}
 use Rattle.std.specs.Option.{option_map_or}
 use Rattle.cash_ledger.specs.Refusals.{account_refusals}
 use Rattle.command_text.specs.declared.asked.Fault.{Fault}
 use Rattle.command_text.specs.declared.asked.Fault.TheVariants.{Syntax, Range}
+use Rattle.command_text.specs.declared.command.Command.TheVariants.{Balance}
 use Rattle.exchange_core.specs.declared.refusal.Refusal.{Refusal}
 use Rattle.exchange_core.specs.declared.refusal.Refusal.TheVariants as refusal
 use Rattle.exchange_core.specs.ExchangeState.{ExchangeState}
 use Rattle.exchange_core.specs.Held.{positions_of}
 use Rattle.exchange_core.specs.Refusals.{by_book, by_ledger}
 use Rattle.exchange_core.specs.Reply.{refused_with}
-use Rattle.exchange_core.specs.Step.{batch_in}
+use Rattle.exchange_core.specs.Step.{batch_in, step}
 use Rattle.order_book.specs.Refusals.{live_refusals}
 use Rattle.proposal_text.specs.declared.replies.ProposalReply.TheVariants as told
 use Rattle.lists.specs.Refusals.{first_of}
@@ -42,3 +43,7 @@ positions_refusals state account market = book_refusals state market ++ by_ledge
 abbrev pub positions_reply : ExchangeState → ℕ → ℕ → ProposingReply
 positions_reply state account market =
     unless_refused (positions_refusals state account market) (Told (told.Positions account market (positions_of account market state.positions)))
+
+-- as a run tells it
+abbrev pub balance_reply : ExchangeState → ℕ → ProposingReply
+balance_reply state account = Plain (step state (Balance account)).0

@@ -1,22 +1,23 @@
 // An exchange that answers all lines and takes proposals.
-ghost use Rattle.std.specs.Prelude.{◌≡◌, ◌≤◌, IfOk, length, Some};
+ghost use Rattle.std.specs.Prelude.{◌≡◌, ◌≤◌, IfOk, false, length, Some};
 ghost use Rattle.std.specs.Option.{option_map};
 ghost use Rattle.command_text.specs.Within.{IsAccount, IsAmount, IsBudget, IsInside, RequestIsWithin};
 ghost use Rattle.exchange_core.specs.Kept.{IsKept};
 ghost use Rattle.form.specs.Limits.{IsWithinLimits};
 ghost use Rattle.live_lines.specs.Answering.{by_step};
 ghost use Rattle.order_book.specs.Book.{batch_of, market_of};
+ghost use Rattle.proposal_lines.specs.Asked.{is_told};
 ghost use Rattle.proposal_lines.specs.Clears.{clear_reply};
 ghost use Rattle.proposal_lines.specs.Output.{other_line, proposing_line, served_line, withdrawal_line, withdrawal_reply, written_reply};
 ghost use Rattle.proposal_lines.specs.Proposed.{proposed_by, proposed_of, proposed_reply};
 ghost use Rattle.proposal_lines.specs.ProposingState.{empty_state};
+ghost use Rattle.proposal_lines.specs.Reading.{reading_beside};
 
-use crate::all_kinds::answer_said;
+use crate::asked::tell;
 use crate::clears::clear;
 use crate::judging::judge;
 use crate::kept_by_market::KeptByMarket;
 use crate::proposed::{Proposed, proposed_of};
-use crate::reads::{book_reply, positions_reply};
 use crate::replies::{ProposingReply, print_line, refused, refused_by_fault};
 use command_text::asked::Fault;
 use command_text::words::SERVED;
@@ -154,16 +155,35 @@ impl ProposalLines {
         number: u32,
         said: Result<Request, Fault>,
     ) -> Result<Vec<u8>, AllocError>
-        requires { IfOk said RequestIsWithin }
+        requires within { IfOk said RequestIsWithin }
+        requires untold { is_told said ≡ false }
         ensures { IfOk result (λ text.
             (text.items, self.new) ≡ other_line number self.old said) }
     {
-        match answer_said(alloc, &mut self.exchange, number, said) {
+        match guarded_lines::answer_said(alloc, &mut self.exchange, number, said) {
             Ok(text) => Ok(text),
             Err(error) => {
                 self.kept.clear();
                 Err(error)
             }
+        }
+    }
+
+    // What is told, where a line changes nothing, or the answer of an exchange that takes no
+    // proposals.
+    fn answer_beside(
+        &mut self,
+        alloc: Global,
+        number: u32,
+        said: Result<Request, Fault>,
+    ) -> Result<Vec<u8>, AllocError>
+        requires { IfOk said RequestIsWithin }
+        ensures { IfOk result (λ text.
+            (text.items, self.new) ≡ reading_beside number self.old said) }
+    {
+        match tell(alloc, &self.exchange, number, &said)? {
+            Some(text) => Ok(text),
+            None => self.answer_other(alloc, number, said),
         }
     }
 
@@ -220,15 +240,7 @@ impl ProposalLines {
             Ok(Request::Command(Command::Clear { market, budget })) => {
                 self.answer_clear(alloc, number, market, budget)
             }
-            Ok(Request::Book { market }) => {
-                let reply = book_reply(&self.exchange, market)?;
-                print_line(alloc, number, &reply)
-            }
-            Ok(Request::Positions { account, market }) => {
-                let reply = positions_reply(&self.exchange, account, market)?;
-                print_line(alloc, number, &reply)
-            }
-            said => self.answer_other(alloc, number, said),
+            said => self.answer_beside(alloc, number, said),
         }
     }
 }

@@ -49,7 +49,7 @@ fn bounded_by(best: Best, run: RunStop, units: u32) -> BoundedOutcome
 }
 
 // Why the run of an outcome stopped; `None` where it is the greatest.
-fn stop_of(mark: &Mark) -> Option<RunStop>
+pub(crate) fn stop_of(mark: &Mark) -> Option<RunStop>
     ensures { result ≡ stop_of mark.now }
 {
     match mark {

@@ -43,8 +43,9 @@ pub fn refused_change_nothing()
 /// a bound with just the numbers that are told, and texts beside them that change nothing. Each
 /// such proposal is used. A batch that is not marked optimal nor cleared as proposals had it is
 /// matched where nothing that counts covers more. Quotes and prices are those from which on a
-/// further order raises the greatest surplus. The answers leave the house its gains: of each batch
-/// at least the surplus that is told, batches that were cleared as proposals had it among them.
+/// further order raises the greatest surplus, and a trial is what a clear with the order tells. The
+/// answers leave the house its gains: of each batch at least the surplus that is told, batches that
+/// were cleared as proposals had it among them.
 pub fn outputs_tell_proposals()
     ensures { OutputsTellProposals }
 {}

@@ -5,9 +5,9 @@
 //! and they cover more than the match.
 #![tactic(auto)]
 
-mod all_kinds;
 pub mod all_kinds_laws;
 mod answers;
+mod asked;
 mod clears;
 mod judging;
 mod kept_by_market;
@@ -15,7 +15,10 @@ pub mod laws;
 mod proposed;
 mod reads;
 mod replies;
+mod trials;
 
 pub use answers::ProposalLines;
+pub use asked::{in_form, tell};
 pub use proposed::Proposed;
 pub use replies::{ProposingReply, print_line};
+pub use trials::trial_reply;

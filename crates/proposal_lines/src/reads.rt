@@ -1,9 +1,9 @@
-// What is told of a market's live orders, and of an account's positions in it.
+// What is told of a market's live orders, of an account's positions in it, and of its balance.
 ghost use Rattle.std.specs.Prelude.{◌≡◌, IfOk};
-ghost use Rattle.proposal_lines.specs.Reads.{book_reply, positions_reply};
+ghost use Rattle.proposal_lines.specs.Reads.{balance_reply, book_reply, positions_reply};
 
 use crate::replies::{ProposingReply, refused};
-use exchange_core::Exchange;
+use exchange_core::{Exchange, Refusal, Reply};
 use proposal_text::{Positions, ProposalReply};
 use std::alloc::AllocError;
 
@@ -33,5 +33,19 @@ pub(crate) fn positions_reply(
             positions: Positions::from_vec(positions),
         })),
         Err(failure) => refused(failure),
+    }
+}
+
+/// The balance of an account and what is reserved of it, as a run tells them.
+pub(crate) fn balance_reply(exchange: &Exchange, account: u32) -> ProposingReply
+    ensures { result ≡ balance_reply exchange.now account }
+{
+    match (exchange.balance(account), exchange.reserved(account)) {
+        (Some(balance), Some(reserved)) => ProposingReply::Plain(Reply::Balance {
+            account,
+            balance,
+            reserved,
+        }),
+        _ => ProposingReply::Plain(Refusal::NoAccount.reply()),
     }
 }

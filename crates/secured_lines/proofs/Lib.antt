@@ -1,10 +1,10 @@
 pub mod Ends
 pub mod LineKinds
 pub mod Moves
-mod OneUnderlying
+pub mod Outputs
 mod Prices
-mod Secured
+pub mod Secured
 pub mod StandingStill
-mod StayingSafe
+pub mod StayingSafe
 pub mod Telling
 mod Without

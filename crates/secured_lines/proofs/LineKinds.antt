@@ -28,6 +28,7 @@ module _ (P : Result Request Fault → Type 0)
   by_kind (Ok (asks.Command c)) = command c
   by_kind (Ok (asks.Quote request)) = other (Ok (asks.Quote request)) (record { handed = λ number state line. refl; none = λ c e. cc })
   by_kind (Ok (asks.Price request)) = other (Ok (asks.Price request)) (record { handed = λ number state line. refl; none = λ c e. cc })
+  by_kind (Ok (asks.Try request)) = other (Ok (asks.Try request)) (record { handed = λ number state line. refl; none = λ c e. cc })
   by_kind (Ok (asks.Margin request)) = other (Ok (asks.Margin request)) (record { handed = λ number state line. refl; none = λ c e. cc })
   by_kind (Ok (asks.Book market)) = other (Ok (asks.Book market)) (record { handed = λ number state line. refl; none = λ c e. cc })
   by_kind (Ok (asks.Positions account market)) = other (Ok (asks.Positions account market)) (record { handed = λ number state line. refl; none = λ c e. cc })

@@ -17,30 +17,23 @@ use Rattle.command_text.specs.Said.{said_in}
 use Rattle.command_text.specs.Within.{RequestIsWithin}
 use Rattle.command_text.proofs.ReadWithin.{said_is_within}
 use Rattle.command_text.proofs.SaidByWords.{command_to_run}
-use Rattle.exchange_core.specs.declared.refusal.Refusal.{Refusal}
 use Rattle.exchange_core.specs.ExchangeState.{ExchangeState}
 use Rattle.exchange_core.specs.LineReplies.{reply_to}
-use Rattle.exchange_core.specs.Refusals.{by_book}
 use Rattle.exchange_core.specs.Step.{step}
 use Rattle.exchange_lines.specs.LineSteps.{InputLine}
 use Rattle.lists.specs.Refusals.{first_of}
-use Rattle.order_book.specs.Refusals.{live_refusals}
 use Rattle.proposal_text.specs.declared.replies.ProposalReply.TheVariants as told
-use Rattle.proposal_lines.specs.AllKinds.{said_line}
 use Rattle.proposal_lines.specs.Answers.{IsToldFor, ProposalAnswer, beside, bounded, replied, taken}
 use Rattle.proposal_lines.specs.Laws.{IsSound}
-use Rattle.proposal_lines.specs.Proposed.{proposed_by, proposed_of, proposed_reply}
-use Rattle.proposal_lines.specs.ProposingState.{ProposingState}
-use Rattle.proposal_lines.specs.Reads as reads
-use Rattle.proposal_lines.specs.declared.proposed.Proposed.{Proposed}
+use Rattle.proposal_lines.specs.Proposed.{proposed_of}
 use Rattle.proposal_lines.specs.declared.replies.ProposingReply.TheVariants.{Told}
-use Rattle.proposal_lines.proofs.AsRun.{said_beside}
 use Rattle.proposal_lines.proofs.Clearing.{better_is}
 use Rattle.secured_accounts.specs.Laws.{Asked, Charged, Event, MayCome, Securing, after_event, guarded}
 use Rattle.secured_accounts.specs.Secured.{uncovered}
 use Rattle.serve_lines.specs.Output.{handed_on as serving_handed_on, serving_line, serving_said, written_reply as serving_reply}
 use Rattle.serve_lines.specs.Phased.{closed_effect, exchange_of, refused_by, reopened_effect, with_phases}
 use Rattle.serve_lines.specs.ServingState.{ServingState}
+use Rattle.serve_lines.proofs.StandingStill.{other_leaves, proposed_leaves}
 use Rattle.serve_lines.proofs.Telling.{serving_told}
 use Rattle.secured_lines.specs.Laws.{guarded_in}
 use Rattle.secured_lines.specs.Output.{command_line, handed_on, kept_from, secured_line, secured_said, withdrawn}
@@ -49,14 +42,6 @@ use Rattle.secured_lines.proofs.LineKinds.{by_answer, by_kind}
 use Rattle.secured_lines.proofs.Prices.{has_prices}
 
 -- ---- lines that say no command leave the exchange
-proposed_leaves : (state : ProposingState) (said : Result Proposed Fault) → (proposed_reply state said).1.exchange ≡ state.exchange
-proposed_leaves state (Err fault) = refl
-proposed_leaves state (Ok proposed) = by (first_of (by_book (live_refusals state.exchange.book proposed.market)))
-  where
-    by : (refused : Option Refusal) → (option_map_or (λ first. (reads.refused_by first, state)) refused (proposed_by state proposed)).1.exchange ≡ state.exchange
-    by None = refl
-    by (Some first) = refl
-
 module _ (number : ℕ) (state : ServingState) (line : List ℕ) where
   abbrev Leaves : Result Request Fault → Type 0
   Leaves said = exchange_of (serving_said number state line said).1 ≡ exchange_of state
@@ -71,9 +56,6 @@ module _ (number : ℕ) (state : ServingState) (line : List ℕ) where
   reopen_leaves market None = refl
   reopen_leaves market (Some first) = refl
 
-  other_leaves : (said : Result Request Fault) → ((command : Command) → said ≡ Ok (asks.Command command) → ⊥) → (said_line number (exchange_of state) said).1 ≡ exchange_of state
-  other_leaves said none = (said_beside number (exchange_of state) said none).1
-
   pub said_leaves : (said : Result Request Fault) → ((command : Command) → said ≡ Ok (asks.Command command) → ⊥) → Leaves said
   said_leaves (Ok (asks.Command command)) none = absurd (none command refl)
   said_leaves (Ok (asks.Close market)) none = close_leaves market (first_of (close_refusals (exchange_of state) state.closed market))
@@ -81,27 +63,21 @@ module _ (number : ℕ) (state : ServingState) (line : List ℕ) where
   said_leaves (Ok (asks.Book market)) none = refl
   said_leaves (Ok (asks.Positions account market)) none = refl
   said_leaves (Ok (asks.Propose request)) none = proposed_leaves state.proposing (proposed_of line request)
-  said_leaves (Ok (asks.Quote request)) none = other_leaves (Ok (asks.Quote request)) none
-  said_leaves (Ok (asks.Price request)) none = other_leaves (Ok (asks.Price request)) none
-  said_leaves (Ok (asks.Margin request)) none = other_leaves (Ok (asks.Margin request)) none
-  said_leaves (Ok (asks.Secure account)) none = other_leaves (Ok (asks.Secure account)) none
-  said_leaves (Ok (asks.Need account)) none = other_leaves (Ok (asks.Need account)) none
-  said_leaves (Err fault) none = other_leaves (Err fault) none
+  said_leaves (Ok (asks.Quote request)) none = other_leaves number (exchange_of state) (Ok (asks.Quote request)) none
+  said_leaves (Ok (asks.Price request)) none = other_leaves number (exchange_of state) (Ok (asks.Price request)) none
+  said_leaves (Ok (asks.Try request)) none = other_leaves number (exchange_of state) (Ok (asks.Try request)) none
+  said_leaves (Ok (asks.Margin request)) none = other_leaves number (exchange_of state) (Ok (asks.Margin request)) none
+  said_leaves (Ok (asks.Secure account)) none = other_leaves number (exchange_of state) (Ok (asks.Secure account)) none
+  said_leaves (Ok (asks.Need account)) none = other_leaves number (exchange_of state) (Ok (asks.Need account)) none
+  said_leaves (Err fault) none = other_leaves number (exchange_of state) (Err fault) none
 
 -- ---- a line over accounts that may be secured
 module _ (state : SecuredState) (line : InputLine) (sound : IsSound state.serving.proposing) where
   abbrev exchange : ExchangeState
   exchange = exchange_in state
 
-  -- a command is what the line says
-  abbrev pub IsSaid : Event → Type 0
-  IsSaid (Asked command) = said_in SERVED line.bytes ≡ Ok (asks.Command command)
-  IsSaid (Charged market fills) = Unit {0}
-  IsSaid (Securing account) = Unit {0}
-
   pub record IsEvent (after : SecuredState) : Type 0 where
     pub event : Event
-    pub said : IsSaid event
     pub may : MayCome (guarded_in state) event
     pub does : guarded_in after ≡ after_event (guarded_in state) event
 
@@ -120,7 +96,6 @@ module _ (state : SecuredState) (line : InputLine) (sound : IsSound state.servin
     asked : uncovered state.secured exchange command ≡ None → (after : ServingState) → exchange_of after ≡ (step exchange command).1 → Comes (secured_of after state.secured)
     asked through after same = inr (record {
       event = Asked command;
-      said = says;
       may = (within_said (Ok (asks.Command command)) says, has_prices SERVED line.bytes command says);
       does = ap (λ (e : ExchangeState). guarded e state.secured) same
           ∙ sym (ap (λ (need : Option Need). if is_some need then guarded_in state else guarded (step exchange command).1 state.secured) through);
@@ -135,7 +110,6 @@ module _ (state : SecuredState) (line : InputLine) (sound : IsSound state.servin
         let better = better_is state.serving.proposing answer.market answer.budget sound told.accepted answer.better told.better in
         inr (record {
           event = Charged answer.market answer.better.proposal.fills;
-          said = tt;
           may = (told.accepted, better.proves.covered.covers.are_fills);
           does = ap (λ (e : ExchangeState). guarded e state.secured) told.exchange;
         })
@@ -178,7 +152,7 @@ module _ (state : SecuredState) (line : InputLine) (sound : IsSound state.servin
   said_comes : (said : Result Request Fault) → said_in SERVED line.bytes ≡ said → Comes (secured_said line.number state line.bytes said).1
   said_comes =
       by_kind (λ said. said_in SERVED line.bytes ≡ said → Comes (secured_said line.number state line.bytes said).1)
-      (λ account is. inr (record { event = Securing account; said = tt; may = within_said (Ok (asks.Secure account)) is; does = refl }))
+      (λ account is. inr (record { event = Securing account; may = within_said (Ok (asks.Secure account)) is; does = refl }))
       (λ account is. inl refl) command_comes
       (λ said other is.
       subst (λ (now : List ℕ × SecuredState). Comes now.1) (sym (other.handed line.number state line.bytes))

@@ -19,7 +19,7 @@ use Rattle.command_text.specs.Asked.{natural_in, text_of}
 use Rattle.command_text.specs.Bundles.{bundle_command, bundle_fault, counted_command, fault_or_syntax, fields_each, legs_command, side_in, sized_command}
 use Rattle.command_text.specs.Fields.{fields_of_line}
 use Rattle.command_text.specs.Numbers.{number_in}
-use Rattle.command_text.specs.Requests.{as_price, as_quote, propose_request, proposed_for}
+use Rattle.command_text.specs.Requests.{as_price, as_quote, as_try, propose_request, proposed_for}
 use Rattle.command_text.specs.Said.{as_command, proposed_in, said_by, said_by_fields, said_in, said_of}
 use Rattle.command_text.specs.Trades.{kind_in, prices_in, settle_command, trade_command, unless}
 use Rattle.command_text.specs.Words.{word_among}
@@ -43,6 +43,10 @@ of_command (Err fault) is = tt
 of_quote : (said : Result QuoteRequest Fault) → IfOk (as_quote said) Priced
 of_quote (Ok quote) = tt
 of_quote (Err fault) = tt
+
+of_try : (side : Side) (price quantity : ℕ) (said : Result QuoteRequest Fault) → IfOk (as_try side price quantity said) Priced
+of_try side price quantity (Ok quote) = tt
+of_try side price quantity (Err fault) = tt
 
 of_price : (quantity : ℕ) (said : Result QuoteRequest Fault) → IfOk (as_price quantity said) Priced
 of_price quantity (Ok quote) = tt
@@ -91,6 +95,7 @@ by_word word.Settle fields = of_command (settle_command fields) (settled fields)
 by_word word.Balance fields = of_command _ (plain HasPrices _ _ _ tt)
 by_word word.Quote fields = of_quote _
 by_word word.Price fields = of_price _ _
+by_word word.Try fields = ok_some Priced (side_in (text_of fields 4)) _ (λ side. of_try side _ _ _)
 by_word word.Margin fields = plain Priced _ _ _ tt
 by_word word.Book fields = plain Priced _ _ _ tt
 by_word word.Positions fields = plain Priced _ _ _ tt

@@ -24,7 +24,7 @@ more_any account other (one ∷ secured) is = by (nat_eq one account) (more_any 
     by true later h = refl
     by false later h = later h
 
-more_secured : (account other : ℕ) (secured : List ℕ) → is_secured secured account ≡ true → is_secured (with_secured secured other) account ≡ true
+pub more_secured : (account other : ℕ) (secured : List ℕ) → is_secured secured account ≡ true → is_secured (with_secured secured other) account ≡ true
 more_secured account other secured is = by (is_secured secured other)
   where
     by : (there : Bool) → is_secured (if there then secured else secured ++ other ∷ []) account ≡ true
@@ -40,7 +40,7 @@ module _ (account number : ℕ) (state : SecuredState) (line : List ℕ) (own : 
   secure_stays other None = more_secured account other state.secured own
   secure_stays other (Some refusal) = own
 
-  said_stays : (said : Result Request Fault) → Stays (secured_said number state line said).1
+  pub said_stays : (said : Result Request Fault) → Stays (secured_said number state line said).1
   said_stays =
       by_kind (λ said. Stays (secured_said number state line said).1) (λ other. secure_stays other (first_of (secure_refusals (exchange_in state) other)))
       (λ other. own) (λ command. by_answer (λ now. Stays now.1) number state line command (λ need kept. own) (λ free other amount is mine. own) (λ free. own))

@@ -1,4 +1,5 @@
--- What is written for an input is told line by line, and keeps what is promised.
+-- What is written for an input is told line by line, and keeps what is promised where proposals are
+-- taken.
 use Rattle.std.proofs.Common.{◌≡◌, ◌++◌, ◌∷◌, [], ℕ, List, Option, Some, None, Result, Ok, Err, refl, sym, ap, ◌∙◌, subst}
 use Rattle.std.specs.Option.{option_map_or}
 use Rattle.account_need.specs.Account.{Need}
@@ -11,6 +12,7 @@ use Rattle.command_text.specs.declared.requests.PriceRequest.{PriceRequest}
 use Rattle.command_text.specs.declared.requests.QuoteRequest.{QuoteRequest}
 use Rattle.command_text.specs.declared.requests.Request.{Request}
 use Rattle.command_text.specs.declared.requests.Request.TheVariants as asks
+use Rattle.command_text.specs.declared.requests.TryRequest.{TryRequest}
 use Rattle.command_text.specs.declared.words.TheConstants.{SERVED}
 use Rattle.command_text.specs.Commands.{body_of_line}
 use Rattle.command_text.specs.Said.{said_in}
@@ -22,7 +24,7 @@ use Rattle.exchange_core.specs.Step.{refusal_effect, withdraw_effect}
 use Rattle.exchange_lines.specs.LineSteps.{InputLine}
 use Rattle.reply_print.specs.ReplyPieces.{reply_line}
 use Rattle.proposal_lines.specs.Laws.{IsSound}
-use Rattle.proposal_lines.specs.Promises.{TellsAsked}
+use Rattle.proposal_lines.specs.Promises.{TellsAsked, TellsBy}
 use Rattle.proposal_lines.specs.ProposingState.{ProposingState}
 use Rattle.proposal_lines.specs.declared.replies.ProposingReply.{ProposingReply}
 use Rattle.proposal_lines.proofs.Beside.{IsBeside, beside_text, refusal_beside}
@@ -35,13 +37,12 @@ use Rattle.secured_accounts.specs.declared.refusal.SecuringRefusal.TheVariants.{
 use Rattle.serve_lines.specs.Output.{serving_said}
 use Rattle.serve_lines.specs.ServingState.{ServingState}
 use Rattle.serve_lines.proofs.Telling.{serving_told}
-use Rattle.secured_lines.specs.Output.{command_line, handed_on, need_reply, secure_reply, secured_line, secured_said, withdrawn, written_reply}
-use Rattle.secured_lines.specs.Promises.{OutputsTellSecured}
+use Rattle.secured_lines.specs.Output.{command_line, handed_on, need_reply, secure_reply, secured_line, secured_output, secured_said, withdrawn, written_reply}
 use Rattle.secured_lines.specs.Replies.{need_answered, refused_by, secure_answered, uncovered_reply}
 use Rattle.secured_lines.specs.SecuredState.{SecuredState, empty_secured, exchange_in}
 use Rattle.secured_lines.proofs.LineKinds.{by_answer, by_kind}
 
-abbrev proposing_of : SecuredState → ProposingState
+abbrev pub proposing_of : SecuredState → ProposingState
 proposing_of state = state.serving.proposing
 
 -- what secured accounts are told takes nothing
@@ -73,16 +74,18 @@ module _ (line : InputLine) (state : SecuredState) (sound : IsSound state.servin
       }
 
   -- ---- answered by the rule
-  -- the line asks for no quote and no prices
+  -- the line asks for no quote and no prices, and tries no order
   record AsksNothing (said : Result Request Fault) : Type 0 where
     quote : (request : QuoteRequest) → said ≡ Ok (asks.Quote request) → ⊥
     prices : (request : PriceRequest) → said ≡ Ok (asks.Price request) → ⊥
+    trial : (request : TryRequest) → said ≡ Ok (asks.Try request) → ⊥
 
   nothing_asked : (said : Result Request Fault) → said_in SERVED line.bytes ≡ said → AsksNothing said → (now : List ℕ × SecuredState)
       → TellsAsked state.serving.proposing line (now.0, now.1.serving.proposing.exchange)
   nothing_asked said is nothing now = record {
     quote = λ request says none. absurd (nothing.quote request (sym is ∙ says));
     prices = λ request says none. absurd (nothing.prices request (sym is ∙ says));
+    trial = λ request says none. absurd (nothing.trial request (sym is ∙ says));
   }
 
   ruled_told : (said : Result Request Fault) → said_in SERVED line.bytes ≡ said → AsksNothing said → (reply : ProposingReply) → IsBeside reply
@@ -95,18 +98,18 @@ module _ (line : InputLine) (state : SecuredState) (sound : IsSound state.servin
 
   secure_told : (account : ℕ) → said_in SERVED line.bytes ≡ Ok (asks.Secure account) → Tells (written_reply line.number (secure_reply state account))
   secure_told account is =
-      ruled_told (Ok (asks.Secure account)) is (record { quote = λ request e. cc; prices = λ request e. cc }) (secure_reply state account).0
+      ruled_told (Ok (asks.Secure account)) is (record { quote = λ request e. cc; prices = λ request e. cc; trial = λ request e. cc }) (secure_reply state account).0
       (secure_beside account (secure_answer (exchange_in state) account)) (secure_reply state account).1 refl
 
   need_told : (account : ℕ) → said_in SERVED line.bytes ≡ Ok (asks.Need account) → Tells (written_reply line.number (need_reply state account, state))
   need_told account is =
-      ruled_told (Ok (asks.Need account)) is (record { quote = λ request e. cc; prices = λ request e. cc }) (need_reply state account)
+      ruled_told (Ok (asks.Need account)) is (record { quote = λ request e. cc; prices = λ request e. cc; trial = λ request e. cc }) (need_reply state account)
       (need_beside account (need_answer state.secured (exchange_in state) account)) state refl
 
   -- ---- a command
   module _ (command : Command) (says : said_in SERVED line.bytes ≡ Ok (asks.Command command)) where
     nothing : AsksNothing (Ok (asks.Command command))
-    nothing = record { quote = λ request e. cc; prices = λ request e. cc }
+    nothing = record { quote = λ request e. cc; prices = λ request e. cc; trial = λ request e. cc }
 
     kept_told : (need : Need) → Tells (written_reply line.number (uncovered_reply need, state))
     kept_told need = ruled_told (Ok (asks.Command command)) says nothing (uncovered_reply need) tt state refl
@@ -146,5 +149,6 @@ module _ (line : InputLine) (state : SecuredState) (sound : IsSound state.servin
 pub secured_told : (line : InputLine) (state : SecuredState) → IsSound state.serving.proposing → TellsLine proposing_of secured_line line state
 secured_told line state sound = let now = said_told line state sound (said_in SERVED line.bytes) refl in record { line_is = now.line_is; asked_is = now.asked_is }
 
-pub outputs_tell_secured : OutputsTellSecured
-outputs_tell_secured = outputs_tell_by proposing_of secured_line secured_told empty_secured refl
+-- all lines
+pub lines_are_told : (input : List ℕ) → TellsBy proposing_of secured_line empty_secured input (secured_output input)
+lines_are_told = outputs_tell_by proposing_of secured_line secured_told empty_secured refl

@@ -1,15 +1,10 @@
 -- What is promised of secured accounts, whatever lines come.
-use Rattle.std.specs.Prelude.{ℕ, ◌≡◌, ◌≤◌, ⊤, true, List, [], ◌∷◌, Ok}
-use Rattle.std.specs.List.{All}
+use Rattle.std.specs.Prelude.{ℕ, ◌≡◌, ◌≤◌, true, List}
 use Rattle.cash_ledger.specs.Ledger.{is_open}
-use Rattle.command_text.specs.declared.command.Command.TheVariants.{Market}
-use Rattle.command_text.specs.declared.requests.Request.TheVariants as asks
-use Rattle.command_text.specs.declared.words.TheConstants.{SERVED}
-use Rattle.command_text.specs.Said.{said_in}
 use Rattle.exchange_lines.specs.LineSteps.{InputLine}
 use Rattle.proposal_lines.specs.Answers.{state_by}
 use Rattle.proposal_lines.specs.Laws.{IsSound}
-use Rattle.secured_accounts.specs.Laws.{AllSecured, AreSafe, CanPay, Covered, Guarded, guarded}
+use Rattle.secured_accounts.specs.Laws.{AllSecured, AreSafe, CanPay, Guarded, guarded}
 use Rattle.secured_accounts.specs.Secured.{is_secured}
 use Rattle.secured_lines.specs.Output.{secured_line}
 use Rattle.secured_lines.specs.SecuredState.{SecuredState, empty_secured, exchange_in}
@@ -21,22 +16,15 @@ state_by_lines = state_by secured_line
 abbrev pub guarded_in : SecuredState → Guarded
 guarded_in state = guarded (exchange_in state) state.secured
 
--- after each line, the bounds by which needs are told cover the exposures
-abbrev pub AreCovered : SecuredState → List InputLine → Type 0
-AreCovered state [] = ⊤
-AreCovered state (line ∷ lines) =
-    let next = (secured_line line.number state line.bytes).1 in Covered (exchange_in next) × AreCovered next lines
-
--- a state whose secured accounts are safe, and lines
-pub record AreComing (state : SecuredState) (lines : List InputLine) : Type 0 where
+-- a state whose secured accounts are safe
+pub record IsGuarded (state : SecuredState) : Type 0 where
   pub sound : IsSound state.serving.proposing
   pub safe : AreSafe (guarded_in state)
-  pub covered : AreCovered state lines
 
 abbrev pub Always : (SecuredState → SecuredState → Type 0) → Type 0
-Always Holds = (state : SecuredState) (lines : List InputLine) → AreComing state lines → Holds state (state_by_lines state lines)
+Always Holds = (state : SecuredState) (lines : List InputLine) → IsGuarded state → Holds state (state_by_lines state lines)
 
--- after them the balance of each secured account is at or above its true need
+-- after any lines the balance of each secured account is at or above its true need
 abbrev pub SecuredStaySafe : Type 0
 SecuredStaySafe = Always (λ before after. AreSafe (guarded_in after))
 
@@ -55,9 +43,7 @@ abbrev pub TradersCanPay : Type 0
 TradersCanPay =
     Always (λ before after. AllSecured (guarded_in after) → (account : ℕ) → 1 ≤ account → is_open (exchange_in after).accounts account ≡ true → CanPay (guarded_in after) account)
 
--- ---- where all markets are on one underlying
-abbrev pub ListsOnOne : InputLine → Type 0
-ListsOnOne line = (market underlyings : ℕ) → said_in SERVED line.bytes ≡ Ok (asks.Command (Market market underlyings)) → underlyings ≡ 1
-
-abbrev pub OneUnderlyingStaysSafe : Type 0
-OneUnderlyingStaysSafe = (lines : List InputLine) → All ListsOnOne lines → AreSafe (guarded_in (state_by_lines empty_secured lines))
+-- ---- from nothing
+-- so it is from the first line on
+abbrev pub ServedStaySafe : Type 0
+ServedStaySafe = (lines : List InputLine) → AreSafe (guarded_in (state_by_lines empty_secured lines))

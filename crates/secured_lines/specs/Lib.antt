@@ -3,3 +3,4 @@ pub mod Replies
 pub mod Output
 pub mod Laws
 pub mod Promises
+pub mod Asked

@@ -1,5 +1,5 @@
 -- What is promised of the bytes that are written where accounts may be secured.
-use Rattle.std.specs.Prelude.{ℕ, ◌≡◌, ⊤, true, false, List, [], ◌∷◌, nat_eq, Ok}
+use Rattle.std.specs.Prelude.{ℕ, ◌≡◌, ⊤, true, false, List, [], ◌∷◌, ◌++◌, nat_eq, Ok}
 use Rattle.std.specs.List.{All}
 use Rattle.std.specs.Option.{option_map_or}
 use Rattle.auction_phases.specs.Laws.{StandsStill}
@@ -10,16 +10,19 @@ use Rattle.command_text.specs.Said.{said_in}
 use Rattle.exchange_lines.specs.LineSteps.{InputLine, input_lines}
 use Rattle.proposal_lines.specs.Laws.{IsSound}
 use Rattle.proposal_lines.specs.Promises.{TellsBy}
+use Rattle.secured_accounts.specs.Laws.{AreSafe}
 use Rattle.serve_lines.specs.Laws.{ended_by_said, phased_of}
 use Rattle.serve_lines.specs.Output.{serving_line, serving_output}
 use Rattle.serve_lines.specs.ServingState.{ServingState}
-use Rattle.secured_lines.specs.Laws.{state_by_lines}
+use Rattle.secured_lines.specs.Laws.{guarded_in, state_by_lines}
 use Rattle.secured_lines.specs.Output.{secured_line, secured_output}
 use Rattle.secured_lines.specs.SecuredState.{SecuredState, empty_secured, secured_of}
 
--- they keep what is promised of an exchange that takes proposals
-abbrev pub TellSecured : List ℕ → List ℕ → Type 0
-TellSecured = TellsBy (λ (state : SecuredState). state.serving.proposing) secured_line empty_secured
+-- they keep what is promised of an exchange that takes proposals, and after each line the balance of
+-- each secured account is at or above its true need
+pub record TellSecured (input bytes : List ℕ) : Type 0 where
+  pub told : TellsBy (λ (state : SecuredState). state.serving.proposing) secured_line empty_secured input bytes
+  pub safe : (front back : List InputLine) → input_lines input ≡ front ++ back → AreSafe (guarded_in (state_by_lines empty_secured front))
 
 abbrev pub OutputsTellSecured : Type 0
 OutputsTellSecured = (input : List ℕ) → TellSecured input (secured_output input)

@@ -2,6 +2,7 @@
 -- secured.
 use Rattle.std.specs.Prelude.{ℕ, List, []}
 use Rattle.exchange_core.specs.ExchangeState.{ExchangeState}
+use Rattle.secured_accounts.specs.Secured.{with_secured}
 use Rattle.serve_lines.specs.Phased.{exchange_of}
 use Rattle.serve_lines.specs.ServingState.{ServingState, empty_serving}
 
@@ -19,3 +20,7 @@ empty_secured = secured_of empty_serving []
 
 abbrev pub exchange_in : SecuredState → ExchangeState
 exchange_in state = exchange_of state.serving
+
+-- an account that was just opened is secured
+abbrev pub with_opened : SecuredState → ℕ → SecuredState
+with_opened state account = secured_of state.serving (with_secured state.secured account)

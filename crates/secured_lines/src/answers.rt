@@ -1,14 +1,15 @@
 // An exchange that answers all lines of `serve`, over accounts that may be secured.
-ghost use Rattle.std.specs.Prelude.{◌≡◌, IfOk};
+ghost use Rattle.std.specs.Prelude.{◌≡◌, IfOk, OnOk};
 ghost use Rattle.command_text.specs.Within.{IsAccount, IsInside, IsWithin, RequestIsWithin};
 ghost use Rattle.live_lines.specs.Answering.{by_step};
 ghost use Rattle.secured_lines.specs.Output.{command_line, kept_from, let_through, need_reply, secure_reply, secured_line, secured_said, written_reply};
-ghost use Rattle.secured_lines.specs.SecuredState.{empty_secured};
+ghost use Rattle.secured_lines.specs.SecuredState.{empty_secured, exchange_in, with_opened};
 
 use crate::replies::{need, secure, uncovered_reply};
 use command_text::asked::Fault;
 use command_text::words::SERVED;
 use command_text::{Command, Request, read_line};
+use exchange_core::Exchange;
 use live_lines::{LineAnswers, LineSteps};
 use proposal_lines::{ProposingReply, print_line};
 use secured_accounts::{Need, SecuredAccounts};
@@ -45,6 +46,20 @@ impl SecuredLines {
         }
     }
 
+    /// The exchange, of which may be asked what it would answer.
+    pub fn exchange(&self) -> &Exchange
+        ensures { result.now ≡ exchange_in self.now }
+    {
+        self.serving.exchange()
+    }
+
+    /// Secures an account that was just opened, for good. The only error is want of memory.
+    pub fn secure_opened(&mut self, account: u32) -> Result<(), AllocError>
+        ensures { OnOk result (self.new ≡ with_opened self.old account) }
+    {
+        self.accounts.secure_opened(account)
+    }
+
     fn secure(&mut self, alloc: Global, account: u32) -> Result<ProposingReply, AllocError>
         requires { IsAccount account }
         ensures { IfOk result (λ reply. (reply, self.new) ≡ secure_reply self.old account) }
@@ -68,7 +83,12 @@ impl SecuredLines {
     }
 
     // The answer to a line that asks what an account needs.
-    fn answer_need(&self, alloc: Global, number: u32, account: u32) -> Result<Vec<u8>, AllocError>
+    pub(crate) fn answer_need(
+        &self,
+        alloc: Global,
+        number: u32,
+        account: u32,
+    ) -> Result<Vec<u8>, AllocError>
         ensures { IfOk result (λ text. (text.items, self.now)
             ≡ written_reply number (need_reply self.now account, self.now)) }
     {

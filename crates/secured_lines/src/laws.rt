@@ -1,16 +1,17 @@
 //! Laws over the definitions: each is the contract of a function that does nothing.
-ghost use Rattle.secured_lines.specs.Laws.{OneUnderlyingStaysSafe, SecuredCanPay, SecuredStaySafe, SecuredStaySecured, TradersCanPay};
+ghost use Rattle.secured_lines.specs.Asked.{OutputsTellAsked};
+ghost use Rattle.secured_lines.specs.Laws.{SecuredCanPay, SecuredStaySafe, SecuredStaySecured, ServedStaySafe, TradersCanPay};
 ghost use Rattle.secured_lines.specs.Promises.{AnswersAreAlike, ClosedMarketsStandStill, OutputsTellSecured, WithoutSecured};
 
 /// The balance of a secured account stays at or above its true need, whatever lines come, refused
-/// or not, as far as the bounds by which its need is told cover its exposures.
+/// or not.
 pub fn secured_stay_safe()
     ensures { SecuredStaySafe }
 {}
 
-/// So where all markets are on one underlying, whatever lines come.
-pub fn one_underlying_stays_safe()
-    ensures { OneUnderlyingStaysSafe }
+/// So it is from the first line on.
+pub fn served_stay_safe()
+    ensures { ServedStaySafe }
 {}
 
 /// An account that is secured stays secured.
@@ -50,4 +51,11 @@ pub fn without_secured()
 /// where no account can be secured.
 pub fn answers_are_alike()
     ensures { AnswersAreAlike }
+{}
+
+/// What is written for an input between whose lines some ask is the texts of its lines, and those of
+/// the lines that ask nothing are what is written for the input without the others: asking changes
+/// nothing.
+pub fn outputs_tell_asked()
+    ensures { OutputsTellAsked }
 {}

@@ -4,6 +4,7 @@
 #![tactic(auto)]
 
 mod answers;
+mod asking;
 pub mod laws;
 mod replies;
 

@@ -40,6 +40,7 @@ module _ (number : ℕ) (state : ServingState) (line : List ℕ) where
       command_ends (Ok (asks.Command command)) is (ended_in (exchange_of state) command) (bars state.closed (exchange_of state) command)
   said_ends (Ok (asks.Quote request)) is = handed_ends (Ok (asks.Quote request)) is None
   said_ends (Ok (asks.Price request)) is = handed_ends (Ok (asks.Price request)) is None
+  said_ends (Ok (asks.Try request)) is = handed_ends (Ok (asks.Try request)) is None
   said_ends (Ok (asks.Margin request)) is = handed_ends (Ok (asks.Margin request)) is None
   said_ends (Ok (asks.Secure account)) is = handed_ends (Ok (asks.Secure account)) is None
   said_ends (Ok (asks.Need account)) is = handed_ends (Ok (asks.Need account)) is None

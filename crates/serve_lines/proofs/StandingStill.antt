@@ -49,7 +49,7 @@ use Rattle.serve_lines.proofs.Telling.{serving_sound}
 
 -- ---- the exchange behind a line
 -- a proposal leaves it
-proposed_leaves : (state : ProposingState) (said : Result Proposed Fault) → (proposed_reply state said).1.exchange ≡ state.exchange
+pub proposed_leaves : (state : ProposingState) (said : Result Proposed Fault) → (proposed_reply state said).1.exchange ≡ state.exchange
 proposed_leaves state (Err fault) = refl
 proposed_leaves state (Ok proposed) = by (first_of (by_book (live_refusals state.exchange.book proposed.market)))
   where
@@ -58,7 +58,7 @@ proposed_leaves state (Ok proposed) = by (first_of (by_book (live_refusals state
     by (Some first) = refl
 
 -- other lines than commands leave it
-other_leaves : (number : ℕ) (state : ExchangeState) (said : Result Request Fault) → ((command : Command) → said ≡ Ok (asks.Command command) → ⊥) → (said_line number state said).1 ≡ state
+pub other_leaves : (number : ℕ) (state : ExchangeState) (said : Result Request Fault) → ((command : Command) → said ≡ Ok (asks.Command command) → ⊥) → (said_line number state said).1 ≡ state
 other_leaves number state said none = (said_beside number state said none).1
 
 module _ (market : ℕ) (state : ServingState) (sound : IsSound state.proposing) (shut : is_closed state.closed market ≡ true) where
@@ -154,6 +154,8 @@ module _ (market : ℕ) (state : ServingState) (sound : IsSound state.proposing)
       left_stands number line (Ok (asks.Quote request)) (other_leaves number exchange (Ok (asks.Quote request)) (λ c e. cc))
   said_line_stands number line (Ok (asks.Price request)) elsewhere =
       left_stands number line (Ok (asks.Price request)) (other_leaves number exchange (Ok (asks.Price request)) (λ c e. cc))
+  said_line_stands number line (Ok (asks.Try request)) elsewhere =
+      left_stands number line (Ok (asks.Try request)) (other_leaves number exchange (Ok (asks.Try request)) (λ c e. cc))
   said_line_stands number line (Ok (asks.Margin request)) elsewhere =
       left_stands number line (Ok (asks.Margin request)) (other_leaves number exchange (Ok (asks.Margin request)) (λ c e. cc))
   said_line_stands number line (Ok (asks.Secure account)) elsewhere =

@@ -6,6 +6,7 @@ use Rattle.command_text.specs.declared.requests.PriceRequest.{PriceRequest}
 use Rattle.command_text.specs.declared.requests.QuoteRequest.{QuoteRequest}
 use Rattle.command_text.specs.declared.requests.Request.{Request}
 use Rattle.command_text.specs.declared.requests.Request.TheVariants as asks
+use Rattle.command_text.specs.declared.requests.TryRequest.{TryRequest}
 use Rattle.command_text.specs.declared.words.TheConstants.{SERVED}
 use Rattle.command_text.specs.Said.{said_in}
 use Rattle.exchange_lines.specs.LineSteps.{InputLine}
@@ -52,10 +53,11 @@ module _ (line : InputLine) (state : ServingState) (sound : IsSound state.propos
   }
 
   -- ---- answered by its phase
-  -- the line asks for no quote and no prices
+  -- the line asks for no quote and no prices, and tries no order
   record AsksNothing (said : Result Request Fault) : Type 0 where
     quote : (request : QuoteRequest) → said ≡ Ok (asks.Quote request) → ⊥
     prices : (request : PriceRequest) → said ≡ Ok (asks.Price request) → ⊥
+    trial : (request : TryRequest) → said ≡ Ok (asks.Try request) → ⊥
 
   phased_told : (said : Result Request Fault) → said_in SERVED line.bytes ≡ said → AsksNothing said → (reply : ProposingReply) → IsBeside reply
       → (after : ServingState) → after.proposing ≡ state.proposing → Tells (written_reply line.number (reply, after))
@@ -65,6 +67,7 @@ module _ (line : InputLine) (state : ServingState) (sound : IsSound state.propos
     asked_is = record {
       quote = λ request says none. absurd (nothing.quote request (sym is ∙ says));
       prices = λ request says none. absurd (nothing.prices request (sym is ∙ says));
+      trial = λ request says none. absurd (nothing.trial request (sym is ∙ says));
     };
   }
 
@@ -72,7 +75,7 @@ module _ (line : InputLine) (state : ServingState) (sound : IsSound state.propos
   close_told market is = by (first_of (close_refusals (exchange_of state) state.closed market))
     where
       nothing : AsksNothing (Ok (asks.Close market))
-      nothing = record { quote = λ request e. cc; prices = λ request e. cc }
+      nothing = record { quote = λ request e. cc; prices = λ request e. cc; trial = λ request e. cc }
 
       answered : (now : ProposingReply × List ℕ) → IsBeside now.0 → Tells (written_reply line.number (with_phases state now))
       answered now beside = phased_told (Ok (asks.Close market)) is nothing now.0 beside (serving_of state.proposing now.1) refl
@@ -86,7 +89,7 @@ module _ (line : InputLine) (state : ServingState) (sound : IsSound state.propos
   reopen_told market is = by (first_of (reopen_refusals (exchange_of state) state.closed market))
     where
       nothing : AsksNothing (Ok (asks.Reopen market))
-      nothing = record { quote = λ request e. cc; prices = λ request e. cc }
+      nothing = record { quote = λ request e. cc; prices = λ request e. cc; trial = λ request e. cc }
 
       answered : (now : ProposingReply × List ℕ) → IsBeside now.0 → Tells (written_reply line.number (with_phases state now))
       answered now beside = phased_told (Ok (asks.Reopen market)) is nothing now.0 beside (serving_of state.proposing now.1) refl
@@ -107,10 +110,11 @@ module _ (line : InputLine) (state : ServingState) (sound : IsSound state.propos
   said_told (Ok (asks.Close market)) is = close_told market is
   said_told (Ok (asks.Reopen market)) is = reopen_told market is
   said_told (Ok (asks.Command command)) is =
-      command_told (Ok (asks.Command command)) is (record { quote = λ request e. cc; prices = λ request e. cc })
+      command_told (Ok (asks.Command command)) is (record { quote = λ request e. cc; prices = λ request e. cc; trial = λ request e. cc })
       (ended_in (exchange_of state) command) (bars state.closed (exchange_of state) command)
   said_told (Ok (asks.Quote request)) is = handed_told (Ok (asks.Quote request)) is None
   said_told (Ok (asks.Price request)) is = handed_told (Ok (asks.Price request)) is None
+  said_told (Ok (asks.Try request)) is = handed_told (Ok (asks.Try request)) is None
   said_told (Ok (asks.Margin request)) is = handed_told (Ok (asks.Margin request)) is None
   said_told (Ok (asks.Secure account)) is = handed_told (Ok (asks.Secure account)) is None
   said_told (Ok (asks.Need account)) is = handed_told (Ok (asks.Need account)) is None

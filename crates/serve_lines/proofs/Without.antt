@@ -57,6 +57,7 @@ module _ (number : ℕ) (state : ProposingState) (line : List ℕ) where
   said_alone (Ok (asks.Command command)) closes reopens = command_alone command
   said_alone (Ok (asks.Quote request)) closes reopens = handed_alone (Ok (asks.Quote request)) None
   said_alone (Ok (asks.Price request)) closes reopens = handed_alone (Ok (asks.Price request)) None
+  said_alone (Ok (asks.Try request)) closes reopens = handed_alone (Ok (asks.Try request)) None
   said_alone (Ok (asks.Margin request)) closes reopens = handed_alone (Ok (asks.Margin request)) None
   said_alone (Ok (asks.Secure account)) closes reopens = handed_alone (Ok (asks.Secure account)) None
   said_alone (Ok (asks.Need account)) closes reopens = handed_alone (Ok (asks.Need account)) None

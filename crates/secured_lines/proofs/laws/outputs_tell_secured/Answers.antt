@@ -1,4 +1,4 @@
-use Rattle.secured_lines.proofs.Telling.{outputs_tell_secured}
+use Rattle.secured_lines.proofs.Outputs.{outputs_tell_secured}
 use Rattle.secured_lines.proofs.laws.outputs_tell_secured.Goals as goal
 
 pub returns : goal.returns
