@@ -18,28 +18,28 @@ use Rattle.session_lines.proofs.Served.{feed_again}
 use Rattle.member_lines.specs.Laws.{BodiesTellOnce, EndsSaid}
 use Rattle.member_lines.specs.Lines.{MemberState, member_line, member_said, passed_line}
 use Rattle.member_lines.specs.Refused.{refused_as, refused_text}
-use Rattle.member_lines.specs.Runs.{SaidStep}
+use Rattle.member_lines.specs.Runs.{Opens, SaidStep}
 
 abbrev Ends : List ℕ → Type 0
 Ends text = text ≡ without_feed text ++ 10 ∷ []
 
-module _ {S : Type 0} (exchange : S → ExchangeState) (says : SaidStep S) (ends : EndsSaid exchange says) where
+module _ {S : Type 0} (exchange : S → ExchangeState) (says : SaidStep S) (opens : Opens S) (ends : EndsSaid exchange says opens) where
   module _ (session number : ℕ) (state : MemberState S) (body : List ℕ) where
     -- what is inside ends its lines
     inside : (said : Result Request Fault) → said_in SERVED body ≡ said → Ends (says number state.served body said).0
     inside said is = subst (λ (r : Result Request Fault). Ends (says number state.served body r).0) is (ends number state.served body)
 
     ruled : (request : Request) → said_in SERVED body ≡ Ok request → (refused : Option MemberRefusal)
-        → Ends (option_map_or (λ (r : MemberRefusal). (refused_text number r, state)) refused (passed_line exchange says session number state body request)).0
+        → Ends (option_map_or (λ (r : MemberRefusal). (refused_text number r, state)) refused (passed_line exchange says opens session number state body request)).0
     ruled request is (Some refusal) = feed_again (proposal_line number (refused_as refusal))
     ruled request is None = inside (Ok request) is
 
-    said : (r : Result Request Fault) → said_in SERVED body ≡ r → Ends (member_said exchange says session number state body r).0
+    said : (r : Result Request Fault) → said_in SERVED body ≡ r → Ends (member_said exchange says opens session number state body r).0
     said (Ok request) is = ruled request is (first_of (rule_refusals state.members (exchange state.served) session request))
     said (Err fault) is = inside (Err fault) is
 
-  ends_bodies : EndsBodies (member_line exchange says)
+  ends_bodies : EndsBodies (member_line exchange says opens)
   ends_bodies session number state body = said session number state body (said_in SERVED body) refl
 
-pub bodies_tell_once : {S : Type 0} (exchange : S → ExchangeState) (says : SaidStep S) → BodiesTellOnce exchange says
-bodies_tell_once exchange says ends start input = messages_tell_once (member_line exchange says) (ends_bodies exchange says ends) start input
+pub bodies_tell_once : {S : Type 0} (exchange : S → ExchangeState) (says : SaidStep S) (opens : Opens S) → BodiesTellOnce exchange says opens
+bodies_tell_once exchange says opens ends start input = messages_tell_once (member_line exchange says opens) (ends_bodies exchange says opens ends) start input

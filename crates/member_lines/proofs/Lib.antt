@@ -3,3 +3,5 @@ pub mod Noting
 pub mod Passing
 pub mod Ruling
 pub mod Telling
+pub mod MayAsk
+pub mod Opening

@@ -10,10 +10,10 @@ use Rattle.members.specs.Rule.{is_operator}
 use Rattle.members.specs.declared.refusal.MemberRefusal.TheVariants.{NotAllowed, Quota}
 use Rattle.members.proofs.ToldNothing.{others_are_told_nothing}
 use Rattle.member_lines.specs.Laws.{OthersAreRefused, refusal_of_said, tells_of}
-use Rattle.member_lines.specs.Runs.{SaidStep}
+use Rattle.member_lines.specs.Runs.{Opens, SaidStep}
 use Rattle.member_lines.proofs.Passing.{refusals_are_told}
 
-same_account : (a b : ℕ) → Some a ≡ Some b → a ≡ b
+pub same_account : (a b : ℕ) → Some a ≡ Some b → a ≡ b
 same_account a b is = cc
 
 module _ (owners : Owned) (session account : ℕ) (other : owns owners session account ≡ false) (member : is_operator session ≡ false) where
@@ -39,16 +39,17 @@ module _ (owners : Owned) (session account : ℕ) (other : owns owners session a
   not_allowed (asks.Command (command.Settle market count prices)) is = cc
   not_allowed (asks.Quote request) is = cc
   not_allowed (asks.Price request) is = cc
+  not_allowed (asks.Try request) is = cc
   not_allowed (asks.Book market) is = cc
   not_allowed (asks.Secure named) is = cc
   not_allowed (asks.Close market) is = cc
   not_allowed (asks.Reopen market) is = cc
   not_allowed (asks.Propose request) is = cc
 
-module _ {S : Type 0} (exchange : S → ExchangeState) (says : SaidStep S) where
-  pub others_are_refused : OthersAreRefused exchange says
+module _ {S : Type 0} (exchange : S → ExchangeState) (says : SaidStep S) (opens : Opens S) where
+  pub others_are_refused : OthersAreRefused exchange says opens
   others_are_refused number state said request account other member tells is =
       let over = is_over state.members (exchange state.served) said.session request in
       let no = not_allowed state.members.owners said.session account other member request tells in
-      refusals_are_told exchange says number state said NotAllowed
-      (ap (refusal_of_said exchange says state said.session) is ∙ ap (λ b. if not b then Some NotAllowed else if over then Some Quota else None) no)
+      refusals_are_told exchange says opens number state said NotAllowed
+      (ap (refusal_of_said exchange says opens state said.session) is ∙ ap (λ b. if not b then Some NotAllowed else if over then Some Quota else None) no)

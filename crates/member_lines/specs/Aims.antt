@@ -1,8 +1,9 @@
 -- What a line is to do of that which is counted of a session, and whether it did: told by the
 -- exchange before and after it, so that whatever keeps the line from the exchange is not looked at.
-use Rattle.std.specs.Prelude.{ℕ, ◌+◌, Bool, nat_lt, Option, None, Some, if◌then◌else◌}
+use Rattle.std.specs.Prelude.{ℕ, ◌+◌, Bool, nat_lt, Option, None, Some, Result, Ok, Err, if◌then◌else◌}
 use Rattle.std.specs.Option.{option_map_or}
 use Rattle.cash_ledger.specs.Ledger.{is_open}
+use Rattle.command_text.specs.declared.asked.Fault.{Fault}
 use Rattle.command_text.specs.declared.command.Command.{Command}
 use Rattle.command_text.specs.declared.command.Command.TheVariants as command
 use Rattle.command_text.specs.declared.requests.Request.{Request}
@@ -31,6 +32,16 @@ command_aim exchange said = order_aim exchange said
 abbrev pub aim_of : ExchangeState → Request → Aim
 aim_of exchange (asks.Command said) = command_aim exchange said
 aim_of exchange request = Other
+
+-- what is no line with a command does nothing of it
+abbrev pub aim_of_said : ExchangeState → Result Request Fault → Aim
+aim_of_said exchange (Ok request) = aim_of exchange request
+aim_of_said exchange (Err fault) = Other
+
+-- the account that was opened
+abbrev pub opened_by : ExchangeState → Aim → Option ℕ
+opened_by exchange (Open account) = if is_open_in exchange account then Some account else None
+opened_by exchange aim = None
 
 -- as a reply tells it
 abbrev pub done_by : ExchangeState → Aim → Option Reply

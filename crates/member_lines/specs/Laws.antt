@@ -16,9 +16,9 @@ use Rattle.members.specs.declared.refusal.MemberRefusal.{MemberRefusal}
 use Rattle.members.specs.declared.refusal.MemberRefusal.TheVariants.{NotAllowed}
 use Rattle.session_laws.specs.Laws.{ToldOnce}
 use Rattle.session_lines.specs.Served.{without_feed}
-use Rattle.member_lines.specs.Lines.{MemberState, member_line}
+use Rattle.member_lines.specs.Lines.{MemberState, free_line, member_line}
 use Rattle.member_lines.specs.Refused.{refused_text}
-use Rattle.member_lines.specs.Runs.{SaidStep, served_line}
+use Rattle.member_lines.specs.Runs.{Opens, SaidStep, served_line}
 
 -- the account of which a line tells something
 abbrev pub tells_of : Request → Option ℕ
@@ -33,7 +33,7 @@ pub record SaidBody : Type 0 where
   pub session : ℕ
   pub body : List ℕ
 
-module _ {S : Type 0} (exchange : S → ExchangeState) (says : SaidStep S) where
+module _ {S : Type 0} (exchange : S → ExchangeState) (says : SaidStep S) (opens : Opens S) where
   -- ---- what the rule refuses
   -- why, of a line that asks something
   abbrev pub refusal_of_said : MemberState S → ℕ → Result Request Fault → Option MemberRefusal
@@ -46,12 +46,12 @@ module _ {S : Type 0} (exchange : S → ExchangeState) (says : SaidStep S) where
   -- it is told so, and changes nothing
   abbrev pub RefusalsAreTold : Type 0
   RefusalsAreTold = (number : ℕ) (state : MemberState S) (said : SaidBody) (refusal : MemberRefusal) → rule_refusal state said ≡ Some refusal
-      → member_line exchange says said.session number state said.body ≡ (refused_text number refusal, state)
+      → member_line exchange says opens said.session number state said.body ≡ (refused_text number refusal, state)
 
   -- ---- what it lets through is answered as where there is no rule
   -- the state after a body, and after bodies of which the first has this number
   abbrev pub after_body : ℕ → MemberState S → SaidBody → MemberState S
-  after_body number state said = (member_line exchange says said.session number state said.body).1
+  after_body number state said = (member_line exchange says opens said.session number state said.body).1
 
   abbrev pub after_bodies : ℕ → MemberState S → List SaidBody → MemberState S
   after_bodies number state [] = state
@@ -59,7 +59,7 @@ module _ {S : Type 0} (exchange : S → ExchangeState) (says : SaidStep S) where
 
   -- a body in place of those that the rule refuses, which changes nothing where there is no rule
   abbrev pub LeavesAll : List ℕ → Type 0
-  LeavesAll filler = (number : ℕ) (state : S) → (served_line says number state filler).1 ≡ state
+  LeavesAll filler = (session number : ℕ) (state : S) → (free_line exchange says opens session number state filler).1 ≡ state
 
   abbrev pub body_for : List ℕ → Option MemberRefusal → List ℕ → List ℕ
   body_for filler None body = body
@@ -75,12 +75,13 @@ module _ {S : Type 0} (exchange : S → ExchangeState) (says : SaidStep S) where
   AreAsServed filler number state served [] = state.served ≡ served
   AreAsServed filler number state served (said ∷ more) =
       let refusal = rule_refusal state said in
-      let now = served_line says number served (body_for filler refusal said.body) in
-      IsAsServed refusal (member_line exchange says said.session number state said.body).0 now.0
+      let now = free_line exchange says opens said.session number served (body_for filler refusal said.body) in
+      IsAsServed refusal (member_line exchange says opens said.session number state said.body).0 now.0
       × AreAsServed filler (number + 1) (after_body number state said) now.1 more
 
-  -- the answers to those that are let through are those of what has no rule to the same bodies, with
-  -- one that it refuses in place of each of the others; and so is the state
+  -- the answers to those that are let through are those of what has no rule, but secures what members
+  -- open, to the same bodies, with one that it refuses in place of each of the others; and so is the
+  -- state
   abbrev pub AllowedAsServed : Type 0
   AllowedAsServed = (filler : List ℕ) (number : ℕ) (state : MemberState S) (bodies : List SaidBody) → LeavesAll filler → AreAsServed filler number state state.served bodies
 
@@ -129,7 +130,7 @@ module _ {S : Type 0} (exchange : S → ExchangeState) (says : SaidStep S) where
   OthersAreRefused =
       (number : ℕ) (state : MemberState S) (said : SaidBody) (request : Request) (account : ℕ)
       → owns state.members.owners said.session account ≡ false → is_operator said.session ≡ false → tells_of request ≡ Some account → said_in SERVED said.body ≡ Ok request
-      → member_line exchange says said.session number state said.body ≡ (refused_text number NotAllowed, state)
+      → member_line exchange says opens said.session number state said.body ≡ (refused_text number NotAllowed, state)
 
   -- ---- once
   -- what is written for a line ends with a line feed
@@ -138,4 +139,4 @@ module _ {S : Type 0} (exchange : S → ExchangeState) (says : SaidStep S) where
 
   -- then each message takes effect once, in its session's order
   abbrev pub BodiesTellOnce : Type 0
-  BodiesTellOnce = EndsSaid → (start : MemberState S) (input : List ℕ) → ToldOnce (member_line exchange says) start input
+  BodiesTellOnce = EndsSaid → (start : MemberState S) (input : List ℕ) → ToldOnce (member_line exchange says opens) start input

@@ -4,3 +4,4 @@ pub mod Refused
 pub mod Lines
 pub mod Ready
 pub mod Laws
+pub mod Asked

@@ -19,7 +19,7 @@ use Rattle.member_lines.specs.declared.aims.Aim.{Aim}
 use Rattle.member_lines.specs.Aims.{aim_of, done_by}
 use Rattle.member_lines.specs.Lines.{MemberState, member_line, member_said, noted, passed_line, ruled_line}
 use Rattle.member_lines.specs.Refused.{refused_text}
-use Rattle.member_lines.specs.Runs.{SaidStep}
+use Rattle.member_lines.specs.Runs.{Opens, SaidStep}
 
 abbrev pub AreFewOf : ℕ → MembersState → Type 0
 AreFewOf number members = (session : ℕ) → AreFew number members.counts session
@@ -74,18 +74,18 @@ noted_few number members session exchange aim few = by (done_by exchange aim)
     by None = more number members few
     by (Some told) = after_few number members session told few
 
-module _ {S : Type 0} (exchange : S → ExchangeState) (step : SaidStep S) (session number : ℕ) (state : MemberState S) (body : List ℕ) (few : AreReady number state) where
-  behind_ruled : (request : Request) → AreReady (number + 1) (ruled_line exchange step session number state body request).1
+module _ {S : Type 0} (exchange : S → ExchangeState) (step : SaidStep S) (opens : Opens S) (session number : ℕ) (state : MemberState S) (body : List ℕ) (few : AreReady number state) where
+  behind_ruled : (request : Request) → AreReady (number + 1) (ruled_line exchange step opens session number state body request).1
   behind_ruled request = by (first_of (rule_refusals state.members (exchange state.served) session request))
     where
       by : (refused : Option MemberRefusal) → AreReady (number + 1)
-          (option_map_or (λ (refusal : MemberRefusal). (refused_text number refusal, state)) refused (passed_line exchange step session number state body request)).1
+          (option_map_or (λ (refusal : MemberRefusal). (refused_text number refusal, state)) refused (passed_line exchange step opens session number state body request)).1
       by None = noted_few number state.members session (exchange (step number state.served body (Ok request)).1) (aim_of (exchange state.served) request) few
       by (Some refusal) = more number state.members few
 
-  behind_said : (said : Result Request Fault) → AreReady (number + 1) (member_said exchange step session number state body said).1
+  behind_said : (said : Result Request Fault) → AreReady (number + 1) (member_said exchange step opens session number state body said).1
   behind_said (Ok request) = behind_ruled request
   behind_said (Err fault) = more number state.members few
 
-  pub ready_behind : AreReady (number + 1) (member_line exchange step session number state body).1
+  pub ready_behind : AreReady (number + 1) (member_line exchange step opens session number state body).1
   ready_behind = behind_said (said_in SERVED body)

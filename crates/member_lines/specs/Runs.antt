@@ -17,6 +17,10 @@ use Rattle.frac.specs.Value.{fraction_of}
 use Rattle.lists.specs.Refusals.{first_of}
 use Rattle.order_book.specs.Refusals.{batch_refusals}
 
+-- the state once an account that was just opened is secured, where accounts may be
+abbrev pub Opens : Type 0 → Type 0
+Opens S = S → ℕ → S
+
 -- by what a line says: what is written for it, and the state after it
 abbrev pub SaidStep : Type 0 → Type 0
 SaidStep S = ℕ → S → List ℕ → Result Request Fault → List ℕ × S
@@ -36,8 +40,10 @@ abbrev pub IsMoved : Result Request Fault → ExchangeState → ExchangeState �
 IsMoved (Ok (asks.Command said)) before after = (after ≡ before) ⊎ ((after ≡ (step before said).1) ⊎ IsCharged said before after)
 IsMoved said before after = after ≡ before
 
--- in states that are sound, and stay so
-pub record RunsBy {S : Type 0} (exchange : S → ExchangeState) (says : SaidStep S) (Sound : S → Type 0) : Type 0 where
+-- in states that are sound, and stay so; an account that is secured as it is opened moves nothing
+pub record RunsBy {S : Type 0} (exchange : S → ExchangeState) (says : SaidStep S) (opens : Opens S) (Sound : S → Type 0) : Type 0 where
   pub kept : (state : S) → Sound state → IsKept (exchange state)
   pub moves : (number : ℕ) (state : S) (line : List ℕ) → Sound state → IsMoved (said_in SERVED line) (exchange state) (exchange (served_line says number state line).1)
   pub stays : (number : ℕ) (state : S) (line : List ℕ) → Sound state → Sound (served_line says number state line).1
+  pub left : (state : S) (account : ℕ) → exchange (opens state account) ≡ exchange state
+  pub opened : (state : S) (account : ℕ) → Sound state → Sound (opens state account)

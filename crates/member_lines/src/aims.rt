@@ -1,7 +1,7 @@
 // What a line is to do of that which is counted of a session, and whether it did.
 ghost use Rattle.std.specs.Prelude.{◌≡◌};
 ghost use Rattle.command_text.specs.Within.{IsWithin, RequestIsWithin};
-ghost use Rattle.member_lines.specs.Aims.{aim_of, command_aim, done_by, is_open_in, order_aim};
+ghost use Rattle.member_lines.specs.Aims.{aim_of, command_aim, done_by, is_open_in, opened_by, order_aim};
 
 use command_text::{Command, Request};
 use exchange_core::{Exchange, NewOrder, Reply, order_of};
@@ -61,6 +61,22 @@ pub(crate) fn aim_of(exchange: &Exchange, request: &Request) -> Aim
     match request {
         Request::Command(command) => command_aim(exchange, command),
         _ => Aim::Other,
+    }
+}
+
+// The account that was opened.
+pub(crate) fn opened_by(exchange: &Exchange, aim: &Aim) -> Option<u32>
+    ensures { result ≡ opened_by exchange.now aim.now }
+{
+    match aim {
+        Aim::Open { account } => {
+            if is_open(exchange, *account) {
+                Some(*account)
+            } else {
+                None
+            }
+        }
+        _ => None,
     }
 }
 

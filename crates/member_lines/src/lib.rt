@@ -3,10 +3,12 @@
 #![tactic(auto)]
 
 mod aims;
+mod asking;
 pub mod laws;
 mod lines;
 mod refused;
 mod requests;
 
+pub use asking::AsksRequests;
 pub use lines::MemberLines;
 pub use requests::AnswersRequests;

@@ -1,10 +1,9 @@
 // What answers what lines ask.
-ghost use Rattle.std.specs.Prelude.{◌≡◌, ℕ, List, Result, IfOk};
+ghost use Rattle.std.specs.Prelude.{◌≡◌, ℕ, List, Result, IfOk, OnOk};
 ghost use Rattle.command_text.specs.declared.asked.Fault as asked;
 ghost use Rattle.command_text.specs.declared.requests.Request as requests;
 ghost use Rattle.command_text.specs.Within.{IsInside, RequestIsWithin};
 ghost use Rattle.exchange_core.specs.ExchangeState.{ExchangeState};
-ghost use Rattle.member_lines.specs.Runs.{RunsBy};
 
 use command_text::Request;
 use command_text::asked::Fault;
@@ -20,6 +19,9 @@ pub trait AnswersRequests {
     /// What is written for a line with its number that says this, in a state, and the state after
     /// it.
     ghost said_step: { ℕ → Self → List ℕ → Result requests.Request asked.Fault → List ℕ × Self };
+
+    /// The state once an account is secured that was just opened, where accounts may be.
+    ghost with_opened: { Self → ℕ → Self };
 
     /// A state that may stand.
     ghost sound: { Self → Type 0 };
@@ -42,6 +44,8 @@ pub trait AnswersRequests {
         ensures { IfOk result (λ text.
             (text.items, self.new) ≡ said_step number self.old line.now said) };
 
-    /// The exchange moves by what lines say, and by nothing else.
-    ghost runs: { RunsBy exchange_in said_step sound };
+    /// Secures an account that was just opened, where accounts may be secured. The only error is
+    /// want of memory.
+    fn secure_opened(&mut self, account: u32) -> Result<(), AllocError>
+        ensures { OnOk result (self.new ≡ with_opened self.old account) };
 }

@@ -2,4 +2,4 @@ use Rattle.member_lines.proofs.Ruling.{owners_are_kept}
 use Rattle.member_lines.proofs.laws.owners_are_kept.Goals as goal
 
 pub returns : goal.returns
-returns g c = owners_are_kept g.A.AnswersRequests.exchange_in g.A.AnswersRequests.said_step g.A.AnswersRequests.sound g.met.A.AnswersRequests.runs
+returns g c = owners_are_kept g.A.AnswersRequests.exchange_in g.A.AnswersRequests.said_step g.A.AnswersRequests.with_opened g.A.AnswersRequests.sound

@@ -1,0 +1,9 @@
+pub mod Bodies
+pub mod Once
+pub mod Paying
+pub mod Runs
+pub mod Secured
+pub mod Serving
+pub mod Standing
+pub mod StandingStill
+pub mod Unopened
