@@ -1,4 +1,5 @@
-// The word `serve`: lines of every kind, and messages of sessions, answered between two reads.
+// The word `serve`: lines of every kind, and messages of sessions, answered between two reads;
+// between them some ask.
 use crate::running::{MATCHED, MATCHED_REPLIES, assert_lines, run};
 use exchange_program::Status;
 use std::test::Fail;
@@ -63,6 +64,17 @@ static MARKED: &str = "\u{FEFF}7,1,open,1\n";
 
 static MALFORMED: &str = "{\"line\":1,\"number\":15,\"reason\":\"Malformed\",\"reply\":\"gate\"}\n";
 
+// Lines, between which some ask.
+static ASKED: &str = "?balance,0\nopen,1\n?open,2\nopen,2\n?\n?try,1,100,buy,6,1,call,10\n";
+
+static TOLD: &str = r#"{"account":0,"balance":"0","line":1,"reply":"balance","reserved":"0"}
+{"account":1,"line":1,"reply":"opened"}
+{"line":2,"number":26,"reason":"NotAsked","reply":"refused"}
+{"account":2,"line":2,"reply":"opened"}
+{"line":3,"number":1,"reason":"Syntax","reply":"refused"}
+{"line":3,"number":1,"reason":"Syntax","reply":"refused"}
+"#;
+
 #[test]
 fn lines_and_messages_are_served(rt: HostRuntime) -> Result<(), Fail> {
     for (words, input, read, write, status, wanted) in [
@@ -73,6 +85,7 @@ fn lines_and_messages_are_served(rt: HostRuntime) -> Result<(), Fail> {
         ("serve", REQUESTS, 0, 0, Status::Done, REFUSED),
         ("serve sessions", MESSAGES, 0, 0, Status::Done, ANSWERS),
         ("serve sessions", MARKED, 0, 0, Status::Done, MALFORMED),
+        ("serve", ASKED, 0, 0, Status::Done, TOLD),
     ] {
         let (ended, sink) = run(rt.alloc(), words, input.as_bytes(), read, write)?;
         assert_eq!(rt; ended, status, "{input}");

@@ -1,5 +1,5 @@
 -- What is written for a request, and the status that it ends with.
-use Rattle.std.proofs.Common.{◌≡◌, ℕ, List, [], Option, Some, None, IfSome, refl, sym, ◌∙◌, subst}
+use Rattle.std.proofs.Common.{◌≡◌, ℕ, true, List, [], Option, Some, None, IfSome, refl, sym, ◌∙◌, subst}
 use Rattle.std.specs.List.{All}
 use Rattle.std.specs.Io.KnownBytes.{Appends}
 use Rattle.port_io.specs.Writes.{AppendsFront}
@@ -11,7 +11,12 @@ use Rattle.journal_audit.proofs.AuditSays.{audits_say}
 use Rattle.demo_run.specs.Demo.{demo_output}
 use Rattle.exchange_lines.specs.Promises.{TellAnswers}
 use Rattle.exchange_lines.proofs.AsRun.{runs_tell_answers}
-use Rattle.secured_lines.proofs.Telling.{outputs_tell_secured}
+use Rattle.asked_lines.proofs.Apart.{tells_beside}
+use Rattle.secured_lines.specs.Asked.{secured_asks}
+use Rattle.secured_lines.specs.Output.{secured_line}
+use Rattle.secured_lines.specs.Promises.{TellSecured}
+use Rattle.secured_lines.specs.SecuredState.{empty_secured}
+use Rattle.secured_lines.proofs.Outputs.{outputs_tell_secured}
 use Rattle.exchange_sessions.specs.Answers.{sessions_output}
 use Rattle.exchange_sessions.proofs.TellLaws.{output_tells_once, sessions_tell_once}
 use Rattle.guarded_lines.proofs.AsRun.{guarded_tell_answers}
@@ -41,7 +46,7 @@ told_in Quotes input = quotes_tell_answers input
 told_in Guarded input = guarded_tell_answers input
 
 pub told_served : (kind : Served) (input : List ℕ) → ServedTell kind input (served_output kind input)
-told_served served.Lines input = outputs_tell_secured input
+told_served served.Lines input = tells_beside secured_asks secured_line true empty_secured TellSecured outputs_tell_secured input
 told_served served.Sessions input = sessions_tell_once input
 
 -- what is written where the input is read first is told what is promised

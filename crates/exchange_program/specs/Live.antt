@@ -9,8 +9,7 @@ use Rattle.exchange_sessions.specs.AllLines.{TellAllOnce, all_sessions_output}
 use Rattle.live_lines.specs.Serving.{Known}
 use Rattle.program_words.specs.declared.requests.Served.{Served}
 use Rattle.program_words.specs.declared.requests.Served.TheVariants.{Lines, Sessions}
-use Rattle.secured_lines.specs.Output.{secured_output}
-use Rattle.secured_lines.specs.Promises.{TellSecured}
+use Rattle.secured_lines.specs.Asked.{TellAsked, asked_output}
 use Rattle.exchange_program.specs.declared.status.Status.{Status}
 use Rattle.exchange_program.specs.declared.status.Status.TheVariants.{Done, ReadFault, WriteFault, TooLong, Memory}
 
@@ -26,7 +25,7 @@ status_at (Err stop.Memory) = Memory
 abbrev pub EndsAs : Status → (Result (Unit {0}) Stop → Type 0) → Type 0
 EndsAs status Holds = (ended : Result (Unit {0}) Stop) × (status ≡ status_at ended) × Holds ended
 
--- ---- lines of every kind, and messages whose bodies are such lines
+-- ---- lines of every kind, and messages whose bodies are such lines; some may ask between them
 -- no byte of messages is skipped
 abbrev pub skips_mark : Served → Bool
 skips_mark Lines = true
@@ -34,12 +33,13 @@ skips_mark Sessions = false
 
 -- what is written for an input
 abbrev pub served_output : Served → List ℕ → List ℕ
-served_output Lines input = secured_output input
+served_output Lines input = asked_output input
 served_output Sessions input = all_sessions_output input
 
--- what is promised of it: the lines are told their answers, and the messages each once
+-- what is promised of it: the lines are told their answers, and the messages each once; and those
+-- that ask change nothing
 abbrev pub ServedTell : Served → List ℕ → List ℕ → Type 0
-ServedTell Lines input bytes = TellSecured input bytes
+ServedTell Lines input bytes = TellAsked input bytes
 ServedTell Sessions input bytes = TellAllOnce input bytes
 
 -- the output of these bytes is written, and keeps what is promised of it; or a front of it is

@@ -23,12 +23,12 @@ use std::alloc::Global;
 /// messages to their end and answers each, once and in its session's order. `serve` answers lines
 /// of every kind, those of `quotes` and of `guarded`, what a book and an account hold, and
 /// proposals, of which it charges the best where a clear's own run stops; it has written the
-/// answers to all lines that are complete before it reads on. `serve sessions` does so with
-/// messages of sessions, whose bodies are such lines. `propose` is a solver: for each line that
-/// tells a market's book, as `serve` writes it, it writes a line that proposes for these orders and
-/// is judged a bound, before it reads on, and for any other line nothing. `demo` with a seed and a
-/// number of orders reads nothing, runs the text that it makes from them, and writes one summary
-/// line.
+/// answers to all lines that are complete before it reads on. A line that asks has no number and
+/// changes nothing. `serve sessions` does so with messages of sessions, whose bodies are such lines.
+/// `propose` is a solver: for each line that tells a market's book, as `serve` writes it, it writes
+/// a line that proposes for these orders and is judged a bound, before it reads on, and for any
+/// other line nothing. `demo` with a seed and a number of orders reads nothing, runs the text that
+/// it makes from them, and writes one summary line.
 pub fn exchange<S: Source, K: Sink>(
     alloc: Global,
     words: &[String],

@@ -1,5 +1,5 @@
 -- What is written for an input keeps what is promised.
-use Rattle.std.proofs.Common.{◌≡◌, ℕ, List, refl, subst, sym, true, ◌∙◌}
+use Rattle.std.proofs.Common.{◌≡◌, ℕ, ◌+◌, List, [], ◌∷◌, refl, subst, sym, true, false, ◌∙◌}
 use Rattle.command_text.specs.Commands.{body_of_line}
 use Rattle.exchange_core.specs.ExchangeState.{empty_exchange}
 use Rattle.exchange_core.specs.LineReplies.{reply_to}
@@ -11,7 +11,7 @@ use Rattle.live_lines.specs.Output.{output_of}
 use Rattle.proposal_lines.proofs.Outputs.{outputs_are_of_lines}
 use Rattle.session_gate.specs.Runs.{Replies}
 use Rattle.session_lines.specs.Answers.{answers_by}
-use Rattle.session_lines.specs.Laws.{TellOnce, accepted_bodies, as_input, replies_text, told_first}
+use Rattle.session_lines.specs.Laws.{TellOnce, accepted_bodies, accepted_messages, as_input, replies_text, told_first}
 use Rattle.session_lines.specs.Served.{EndsLines, reply_by}
 use Rattle.session_lines.proofs.Served.{feed_again}
 use Rattle.session_lines.proofs.SessionOutputs.{outputs_tell_once}
@@ -20,8 +20,23 @@ use Rattle.secured_lines.specs.Output.{secured_line, secured_output}
 use Rattle.secured_lines.specs.Promises.{TellSecured}
 use Rattle.secured_lines.specs.SecuredState.{empty_secured}
 use Rattle.secured_lines.proofs.Ends as secured
-use Rattle.secured_lines.proofs.Telling.{outputs_tell_secured}
-use Rattle.exchange_sessions.specs.AllLines.{SessionsTellOnce, all_sessions_output}
+use Rattle.secured_lines.proofs.Outputs.{outputs_tell_secured}
+use Rattle.asked_lines.proofs.Apart.{tells_beside}
+use Rattle.proposal_lines.proofs.Telling.{empty_is_sound}
+use Rattle.secured_lines.specs.Asked.{secured_asks}
+use Rattle.served_members.specs.Laws.{ArePaying, AreSecured, after_all}
+use Rattle.served_members.specs.Members.{ServedMembers, empty_members, member_body, member_question, members_output}
+use Rattle.served_members.proofs.Once.{members_tell_once}
+use Rattle.served_members.proofs.Paying.{members_can_pay}
+use Rattle.served_members.proofs.Runs.{members_move_by_rule}
+use Rattle.served_members.proofs.Secured.{members_are_secured}
+use Rattle.served_members.proofs.Serving.{members_are_served}
+use Rattle.session_gate.specs.Gate.{Message}
+use Rattle.session_laws.specs.Laws.{state_after}
+use Rattle.session_lines.specs.Questions.{any_asks, session_asks}
+use Rattle.session_lines.specs.Sessions.{any_session, new_sessions, session_step}
+use Rattle.exchange_sessions.specs.AllLines.{SessionsTellOnce, TellSecuredOnce}
+use Rattle.exchange_sessions.specs.Members.{AreRuled, MembersTellBeside, MembersTold, all_said}
 use Rattle.exchange_sessions.specs.Answers.{answers, sessions_output}
 use Rattle.exchange_sessions.specs.Laws.{OutputTellsOnce, SessionsTold}
 use Rattle.exchange_sessions.specs.Served.{exchange_reply}
@@ -52,7 +67,38 @@ output_tells_once input =
     (tells_once exchange_reply output input (sessions_output input) refl (replies_are_of_one_input input)) runs_tell_answers
 
 -- ---- by lines of any kind
+alone_told : (input : List ℕ) → TellSecuredOnce input (output_of (session_step (any_session secured_line)) false (new_sessions empty_secured) input)
+alone_told input =
+    sessions_told (reply_by secured_line empty_secured) secured_output TellSecured input _ (outputs_tell_once secured_line secured.ends_lines true empty_secured input) outputs_tell_secured
+
 pub sessions_tell_once : SessionsTellOnce
-sessions_tell_once input =
-    sessions_told (reply_by secured_line empty_secured) secured_output TellSecured input (all_sessions_output input)
-    (outputs_tell_once secured_line secured.ends_lines true empty_secured input) outputs_tell_secured
+sessions_tell_once = tells_beside (session_asks (any_asks secured_asks)) (session_step (any_session secured_line)) false (new_sessions empty_secured) TellSecuredOnce alone_told
+
+-- ---- by the rule of who may say what
+-- one after another, by one definition and the other
+same_state : (number : ℕ) (state : ServedMembers) (messages : List Message) → state_after member_body number state messages ≡ after_all number state (all_said messages)
+same_state number state [] = refl
+same_state number state (message ∷ messages) = same_state (number + 1) (member_body message.session number state message.body).1 messages
+
+-- at the start no account has an owner
+none_owned : AreSecured empty_members
+none_owned account owner owned member = cc
+
+ruled : (messages : List Message) → AreRuled (all_said messages) (state_after member_body 1 empty_members messages)
+ruled messages =
+    let bodies = all_said messages in
+    let same = same_state 1 empty_members messages in
+    record {
+      state = same;
+      allowed = λ filler fault is. members_are_served.allowed filler fault is 1 empty_members bodies;
+      moves = members_move_by_rule.moves 1 empty_members bodies empty_is_sound;
+      secured = subst AreSecured (sym same) (members_are_secured 1 empty_members bodies none_owned);
+      paying = subst ArePaying (sym same) (members_can_pay bodies);
+    }
+
+members_told : (input : List ℕ) → MembersTold input (members_output input)
+members_told input =
+    let once = members_tell_once input in record { text = refl; once = once; ruled = ruled (accepted_messages (answers_by once.reply input)) }
+
+pub members_tell_beside : MembersTellBeside
+members_tell_beside = tells_beside (session_asks member_question) (session_step member_body) false (new_sessions empty_members) MembersTold members_told

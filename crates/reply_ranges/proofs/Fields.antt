@@ -16,7 +16,7 @@ use Rattle.command_text.specs.declared.words.LineWord.{LineWord}
 use Rattle.command_text.specs.declared.words.LineWord.TheVariants as word
 use Rattle.command_text.specs.declared.words.TheConstants.{RUN}
 use Rattle.command_text.specs.Asked.{text_of, says_in}
-use Rattle.command_text.specs.Bundles.{has_leg, leg_fields, fields_each}
+use Rattle.command_text.specs.Bundles.{side_in, has_leg, leg_fields, fields_each}
 use Rattle.command_text.specs.Commands.{body_of_said}
 use Rattle.command_text.specs.Fields.{fields_of_line}
 use Rattle.command_text.specs.Numbers.{number_in}
@@ -153,9 +153,9 @@ bundle_places : (fields : List (List ℕ)) → HasPlaces (bundle_shape fields)
 bundle_places fields = counted_places _ _ fields
 
 -- an option
-option_places : (place : ℕ) (asked : List Asked) (fields : List (List ℕ)) → IsPlace place → IsPlace (place + 2) → list_all (is_between 2 51) asked ≡ true → HasPlaces (option_shape place asked fields)
-option_places place asked fields is first are = record {
-  reads = All-cons IsRead (place, word_read (kind_in (text_of fields place))) _ is (some_reads (length fields - 2) asked fields are);
+option_places : (words place : ℕ) (asked : List Asked) (fields : List (List ℕ)) → IsPlace place → IsPlace (place + 2) → list_all (is_between 2 51) asked ≡ true → HasPlaces (option_shape words place asked fields)
+option_places words place asked fields is first are = record {
+  reads = All-cons IsRead (place, word_read (kind_in (text_of fields place))) _ is (some_reads (length fields - words) asked fields are);
   beyond = weight_is 0 (place + 2) fields (omega (arith, first.0), omega (arith, first.1));
 }
 
@@ -172,6 +172,13 @@ third = (omega arith, omega arith)
 fourth : IsPlace 4
 fourth = (omega arith, omega arith)
 
+-- an option, and the side of an order for it
+tried_places : (asked : List Asked) (fields : List (List ℕ)) → list_all (is_between 2 51) asked ≡ true
+    → HasPlaces (let option : Shape = option_shape 3 7 asked fields in record option { reads = (4, word_read (side_in (text_of fields 4))) ∷ option.reads })
+tried_places asked fields are =
+    let option = option_places 3 7 asked fields (omega arith, omega arith) (omega arith, omega arith) are in
+    record { reads = All-cons IsRead (4, word_read (side_in (text_of fields 4))) (option_shape 3 7 asked fields).reads fourth option.reads; beyond = option.beyond }
+
 shapes_have : (w : LineWord) (fields : List (List ℕ)) → HasPlaces (shape_by w fields)
 shapes_have word.Open fields = places_are (shape_by word.Open fields) (second, tt) tt
 shapes_have word.Deposit fields = places_are (shape_by word.Deposit fields) (second, (third, tt)) tt
@@ -184,8 +191,9 @@ shapes_have word.Cancel fields = places_are (shape_by word.Cancel fields) (secon
 shapes_have word.Clear fields = places_are (shape_by word.Clear fields) (second, (third, tt)) tt
 shapes_have word.Settle fields = settle_places fields
 shapes_have word.Balance fields = places_are (shape_by word.Balance fields) (second, tt) tt
-shapes_have word.Quote fields = option_places 4 _ fields (omega arith, omega arith) (omega arith, omega arith) refl
-shapes_have word.Price fields = option_places 5 _ fields (omega arith, omega arith) (omega arith, omega arith) refl
+shapes_have word.Quote fields = option_places 2 4 _ fields (omega arith, omega arith) (omega arith, omega arith) refl
+shapes_have word.Price fields = option_places 2 5 _ fields (omega arith, omega arith) (omega arith, omega arith) refl
+shapes_have word.Try fields = tried_places _ fields refl
 shapes_have word.Margin fields = places_are (shape_by word.Margin fields) (second, (third, (fourth, tt))) tt
 shapes_have word.Book fields = places_are (shape_by word.Book fields) (second, tt) tt
 shapes_have word.Positions fields = places_are (shape_by word.Positions fields) (second, (third, tt)) tt
@@ -268,6 +276,7 @@ said_has : (said : Result Request Fault) → IsPlacedIn said → HasField (body_
 said_has (Ok (asks.Command command)) h = tt
 said_has (Ok (asks.Quote request)) h = tt
 said_has (Ok (asks.Price request)) h = tt
+said_has (Ok (asks.Try request)) h = tt
 said_has (Ok (asks.Margin request)) h = tt
 said_has (Ok (asks.Book market)) h = tt
 said_has (Ok (asks.Positions account market)) h = tt

@@ -22,6 +22,10 @@ pub mod ServedLines
 pub mod ServingLines
 pub mod SecuredServed
 pub mod Messages
+pub mod Asking
+pub mod AskedServed
+pub mod MembersServed
+pub mod Questions
 pub mod Audited
 pub mod InputLines
 pub mod ReadAsWritten

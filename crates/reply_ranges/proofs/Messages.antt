@@ -25,7 +25,7 @@ use Rattle.session_gate.proofs.KnownBefore.{kept_of-keep}
 use Rattle.session_lines.specs.Answers.{kept_reply, reply_of}
 use Rattle.session_lines.specs.Messages.{at_comma, message_in, message_with, number_to, value_read}
 use Rattle.session_lines.specs.Served.{without_feed}
-use Rattle.session_lines.specs.Sessions.{SessionsState, after_answered, after_as, any_session, new_sessions, said_step, session_step}
+use Rattle.session_lines.specs.Sessions.{BodyStep, SessionsState, after_answered, after_as, new_sessions, said_step, session_step}
 use Rattle.session_lines.specs.Texts.{accepted_text, answer_text, expecting_text, malformed_text, sessions_text}
 use Rattle.journal_audit.specs.declared.gate_lines.GateLine.{GateLine}
 use Rattle.journal_audit.specs.declared.gate_lines.GateLine.TheVariants as gate
@@ -36,13 +36,9 @@ use Rattle.journal_audit.specs.GateLines.{IsExpected, IsGateWithin, IsSessionNum
 use Rattle.journal_audit.specs.Laws.{IsServedLineOf, OfGate, OfServe, ServedReply}
 use Rattle.journal_audit.proofs.GateTaken.{gate_written}
 use Rattle.reply_print.specs.Within.{IsLine}
-use Rattle.secured_lines.specs.Output.{secured_line}
-use Rattle.secured_lines.specs.SecuredState.{SecuredState, empty_secured}
-use Rattle.reply_ranges.proofs.ServedLines.{empty_stands}
-use Rattle.reply_ranges.proofs.SecuredServed.{StandsSecured, secured_answers}
 use Rattle.reply_ranges.proofs.Reports.{HasNoFeed}
 use Rattle.reply_ranges.proofs.Runs.{IsAnswered}
-use Rattle.reply_ranges.proofs.Texts.{both_have_none, plain_has_none, with_byte}
+use Rattle.reply_ranges.proofs.Texts.{IsServedText, both_have_none, plain_has_none, with_byte}
 use Rattle.reply_print.proofs.Ascii.{piece_has_no_feed}
 use Rattle.reply_print.proofs.Digits.{plain-decimal}
 
@@ -55,7 +51,7 @@ value_within limit (Value v) h = natural_between 1 limit v h
 value_within limit NotNumber h = tt
 value_within limit Outside h = tt
 
-number_to_within : (limit : ℕ) (field : List ℕ) → IfSome (number_to limit field) (Between 1 limit)
+pub number_to_within : (limit : ℕ) (field : List ℕ) → IfSome (number_to limit field) (Between 1 limit)
 number_to_within limit field = value_within limit (number_in (pos 1) (pos limit) field) (number_within (pos 1) (pos limit) field)
 
 with_within : (session number : Option ℕ) (body : List ℕ) → IfSome session IsSessionNumber → IfSome number (Between 1 MAX_MESSAGE) → IfSome (message_with session number body) IsMessage
@@ -91,7 +87,7 @@ expected_if true answer later h k = h
 expected_if false answer later h k = k
 
 -- what is kept of a session is a sound line of `serve`
-record IsKeptServed (kept : LastAccepted) : Type 0 where
+pub record IsKeptServed (kept : LastAccepted) : Type 0 where
   number : Between 1 MAX_MESSAGE kept.number
   reply : ServedReply
   served : IsServedLineOf kept.reply reply
@@ -111,7 +107,7 @@ answer_expected kept sessions message h =
     (expected_if (is_one_too_many kept sessions) Sessions First tt tt))))
 
 -- ---- the texts of a gate
-malformed_is : (line : ℕ) → malformed_text line ≡ gate_line line gate.Malformed ++ 10 ∷ []
+pub malformed_is : (line : ℕ) → malformed_text line ≡ gate_line line gate.Malformed ++ 10 ∷ []
 malformed_is line = simp append_assoc
 
 sessions_is : (line session : ℕ) → sessions_text line session ≡ gate_line line (gate.Sessions session) ++ 10 ∷ []
@@ -124,13 +120,13 @@ accepted_is : (session number : ℕ) (reply : List ℕ) → accepted_text sessio
 accepted_is session number reply = simp append_assoc
 
 -- by a test of each byte
-tested_has_none : (text : List ℕ) → list_all (λ b. not (b == 10)) text ≡ true → HasNoFeed text
+pub tested_has_none : (text : List ℕ) → list_all (λ b. not (b == 10)) text ≡ true → HasNoFeed text
 tested_has_none [] h = All-nil (λ b. (b == 10) ≡ false)
 tested_has_none (b ∷ text) h =
     let parts = and_parts (not (b == 10)) (list_all (λ b. not (b == 10)) text) h in
     with_byte b text (grind (arith, nat_tests, parts.0)) (tested_has_none text parts.1)
 
-number_has_none : (n : ℕ) → HasNoFeed (decimal n)
+pub number_has_none : (n : ℕ) → HasNoFeed (decimal n)
 number_has_none n = plain_has_none (decimal n) (plain-decimal n)
 
 accepted_has_none : (session number : ℕ) (reply : List ℕ) → HasNoFeed reply → HasNoFeed (accepted_line number session reply)
@@ -142,18 +138,19 @@ accepted_has_none session number reply one =
     (both_have_none (codes ",\"session\":") _ (tested_has_none (codes ",\"session\":") refl)
     (both_have_none (decimal session) (codes "}") (number_has_none session) (tested_has_none (codes "}") refl))))
 
--- ---- before the line of a number
-pub record StandsBefore (number : ℕ) (state : SessionsState SecuredState) : Type 0 where
-  served : state.0.served < number
-  stands : StandsSecured (state.0.served + 1) state.1
-  kept : (session : ℕ) → IfSome (kept_of state.0.sessions session) IsKeptServed
+-- ---- before the line of a number, where what answers the bodies stands before the next one
+pub record StandsBefore {S : Type 0} (Stands : ℕ → S → Type 0) (number : ℕ) (state : SessionsState S) : Type 0 where
+  pub served : state.0.served < number
+  pub stands : Stands (state.0.served + 1) state.1
+  pub kept : (session : ℕ) → IfSome (kept_of state.0.sessions session) IsKeptServed
 
-pub nothing_before : StandsBefore 1 (new_sessions empty_secured)
-nothing_before = record { served = omega arith; stands = empty_stands; kept = λ session. tt }
+module _ {S : Type 0} (Stands : ℕ → S → Type 0) where
+  pub nothing_before : (start : S) → Stands 1 start → StandsBefore Stands 1 (new_sessions start)
+  nothing_before start h = record { served = omega arith; stands = h; kept = λ session. tt }
 
--- behind an empty line
-pub passes : (number : ℕ) (state : SessionsState SecuredState) → StandsBefore number state → StandsBefore (number + 1) state
-passes number state h = let lt = h.served in record { served = omega (arith, lt); stands = h.stands; kept = h.kept }
+  -- behind an empty line
+  pub passes : (number : ℕ) (state : SessionsState S) → StandsBefore Stands number state → StandsBefore Stands (number + 1) state
+  passes number state h = let lt = h.served in record { served = omega (arith, lt); stands = h.stands; kept = h.kept }
 
 -- what is kept of a session after one more message
 kept_after : (sessions : KnownSessions) (session : ℕ) (new : LastAccepted) → ((q : ℕ) → IfSome (kept_of sessions q) IsKeptServed) → IsKeptServed new
@@ -166,18 +163,25 @@ kept_itself : (sessions : KnownSessions) (session : ℕ) (new : LastAccepted) �
 kept_itself sessions session new =
     kept_of-keep session new sessions session ∙ ap (λ (b : Bool). cond b (Some new) (kept_of sessions session)) (same session session refl)
 
-without_it : (text : List ℕ) → without_feed (text ++ 10 ∷ []) ≡ text
+pub without_it : (text : List ℕ) → without_feed (text ++ 10 ∷ []) ≡ text
 without_it text = take_at text (10 ∷ []) (length (text ++ 10 ∷ []) - 1) (omega (arith, length-append text (10 ∷ [])))
 
+-- a body is answered by a sound line of `serve`, and what is left stands before the next one
+abbrev pub AnswersBodies : {S : Type 0} → BodyStep S → (ℕ → S → Type 0) → Type 0
+AnswersBodies {S} step Stands =
+    (session number : ℕ) (state : S) (body : List ℕ) → number ≤ MAX_LINES → Stands number state
+    → IsServedText (step session number state body).0 × Stands (number + 1) (step session number state body).1
+
 -- ---- what is written for a line
-module _ (number : ℕ) (state : SessionsState SecuredState) (few : number ≤ MAX_LINES) (before : StandsBefore number state) where
-  abbrev IsTold : List ℕ × SessionsState SecuredState → Type 0
-  IsTold = IsAnswered (StandsBefore (number + 1))
+module _ {S : Type 0} (step : BodyStep S) (Stands : ℕ → S → Type 0) (each : AnswersBodies step Stands)
+    (number : ℕ) (state : SessionsState S) (few : number ≤ MAX_LINES) (before : StandsBefore Stands number state) where
+  abbrev IsTold : List ℕ × SessionsState S → Type 0
+  IsTold = IsAnswered (StandsBefore Stands (number + 1))
 
   is_line : IsLine number
   is_line = let lt = before.served in (omega (arith, lt), few)
 
-  gate_told : (refused : GateLine) → IsGateWithin refused → (text : List ℕ) → text ≡ gate_line number refused ++ 10 ∷ [] → IsTold (text, state)
+  pub gate_told : (refused : GateLine) → IsGateWithin refused → (text : List ℕ) → text ≡ gate_line number refused ++ 10 ∷ [] → IsTold (text, state)
   gate_told refused within text is = record {
     text = gate_line number refused;
     is = is;
@@ -185,11 +189,11 @@ module _ (number : ℕ) (state : SessionsState SecuredState) (few : number ≤ M
       sound = record { reply = OfGate refused; is_line = (number, ((is_line, within), refl)) };
       one = piece_has_no_feed 6 (gate_piece number refused) (gate_written number refused (is_line, within));
     };
-    stands = passes number state before;
+    stands = passes Stands number state before;
   }
 
   reply_told : (message : Message) → IsMessage message → (reply : List ℕ) (own : ServedReply) → IsServedLineOf reply own → HasNoFeed reply
-      → (next : SessionsState SecuredState) → StandsBefore (number + 1) next → IsTold (accepted_text message.session message.number reply, next)
+      → (next : SessionsState S) → StandsBefore Stands (number + 1) next → IsTold (accepted_text message.session message.number reply, next)
   reply_told message is reply own served one next stands = record {
     text = accepted_line message.number message.session reply;
     is = accepted_is message.session message.number reply;
@@ -203,18 +207,18 @@ module _ (number : ℕ) (state : SessionsState SecuredState) (few : number ≤ M
     stands = stands;
   }
 
-  abbrev told_as : Message → Answer → List ℕ × SessionsState SecuredState
+  abbrev told_as : Message → Answer → List ℕ × SessionsState S
   told_as message answer =
-      let next = after_as (any_session secured_line) answer state message in (answer_text number message answer (kept_reply next.0 message.session), next)
+      let next = after_as step answer state message in (answer_text number message answer (kept_reply next.0 message.session), next)
 
   -- a message that is accepted
   first_told : (message : Message) → IsMessage message → IsTold (told_as message First)
   first_told message is =
       let lt = before.served in
       let n = state.0.served + 1 in
-      let answer = secured_answers n state.1 (omega (arith, lt, few)) before.stands message.body in
+      let answer = each message.session n state.1 message.body (omega (arith, lt, few)) before.stands in
       let own = answer.0 in
-      let now = secured_line n state.1 message.body in
+      let now = step message.session n state.1 message.body in
       let reply = without_feed now.0 in
       let same : reply ≡ own.text = ap without_feed own.is ∙ without_it own.text in
       let new : LastAccepted = accepted_as message reply in
@@ -224,8 +228,8 @@ module _ (number : ℕ) (state : SessionsState SecuredState) (few : number ≤ M
         served = subst (λ t. IsServedLineOf t own.reply) (sym same) own.served;
         one = subst HasNoFeed (sym same) own.one;
       } in
-      let next = after_answered (any_session secured_line) state message in
-      let stands : StandsBefore (number + 1) next = record { served = omega (arith, lt); stands = answer.1; kept = kept_after state.0.sessions message.session new before.kept kept } in
+      let next = after_answered step state message in
+      let stands : StandsBefore Stands (number + 1) next = record { served = omega (arith, lt); stands = answer.1; kept = kept_after state.0.sessions message.session new before.kept kept } in
       subst (λ r. IsTold (accepted_text message.session message.number r, next)) (sym (ap reply_of (kept_itself state.0.sessions message.session new)))
       (reply_told message is reply own.reply kept.served kept.one next stands)
 
@@ -235,7 +239,7 @@ module _ (number : ℕ) (state : SessionsState SecuredState) (few : number ≤ M
       let (kept, there, same_number, same_body) = repeats_are_kept state.0 message e in
       let served : IsKeptServed kept = subst (λ o. IfSome o IsKeptServed) there (before.kept message.session) in
       subst (λ r. IsTold (accepted_text message.session message.number r, state)) (sym (ap reply_of there))
-      (reply_told message is kept.reply served.reply served.served served.one state (passes number state before))
+      (reply_told message is kept.reply served.reply served.served served.one state (passes Stands number state before))
 
   answer_told : (message : Message) → IsMessage message → (answer : Answer) → answer_to state.0 message ≡ answer → IsExpectedIn answer → IsTold (told_as message answer)
   answer_told message is First e expects = first_told message is
@@ -246,10 +250,10 @@ module _ (number : ℕ) (state : SessionsState SecuredState) (few : number ≤ M
       gate_told (gate.Expecting message.session expected why.Changed) (is.0, expects) _ (expecting_is number message.session expected why.Changed)
   answer_told message is Sessions e expects = gate_told (gate.Sessions message.session) is.0 _ (sessions_is number message.session)
 
-  said_told : (said : Option Message) → IfSome said IsMessage → IsTold (said_step (any_session secured_line) number state said)
+  said_told : (said : Option Message) → IfSome said IsMessage → IsTold (said_step step number state said)
   said_told None is = gate_told gate.Malformed tt _ (malformed_is number)
   said_told (Some message) is =
       answer_told message is (answer_to state.0 message) refl (answer_expected (kept_of state.0.sessions message.session) state.0.sessions message (before.kept message.session))
 
-  pub answers_messages : (line : List ℕ) → IsTold (session_step (any_session secured_line) number state line)
+  pub answers_messages : (line : List ℕ) → IsTold (session_step step number state line)
   answers_messages line = said_told (message_in line) (message_within line)

@@ -96,7 +96,7 @@ side_price batch order budget (side.Unmarked price outcome) tells = tt
 side_price batch order budget side.Spent tells = tt
 
 -- ---- refusals
-info_told : (info : Option MarketInfo) (request : QuoteRequest) → All IsOne (info_refusals info request)
+pub info_told : (info : Option MarketInfo) (request : QuoteRequest) → All IsOne (info_refusals info request)
 info_told None request = All-from_recursion IsOne (info_refusals None request) (((omega arith, omega arith), refl), tt)
 info_told (Some info) request =
     All-from_recursion IsOne (info_refusals (Some info) request) (((omega arith, omega arith), refl), (((omega arith, omega arith), refl), (((omega arith, omega arith), refl), tt)))
@@ -106,7 +106,7 @@ market_told None = All-from_recursion IsOne (market_refusals None) (((omega arit
 market_told (Some info) = All-from_recursion IsOne (market_refusals (Some info)) (((omega arith, omega arith), refl), tt)
 
 -- one refusal more
-one_told : (holds : Bool) (refusal : Refusal) → IsTold refusal → All IsOne ((holds, refusal) ∷ [])
+pub one_told : (holds : Bool) (refusal : Refusal) → IsTold refusal → All IsOne ((holds, refusal) ∷ [])
 one_told holds refusal is = All-from_recursion IsOne ((holds, refusal) ∷ []) (is, tt)
 
 two_told : (holds also : Bool) (refusal next : Refusal) → IsTold refusal → IsTold next → All IsOne ((holds, refusal) ∷ (also, next) ∷ [])
@@ -230,6 +230,7 @@ module _ (lines number : ℕ) (few : lines + 1 ≤ MAX_LINES) (is_line : IsLine 
   said_served (Ok (asks.Book market)) within placed = plain_served body.Syntax tt tt
   said_served (Ok (asks.Positions account market)) within placed = plain_served body.Syntax tt tt
   said_served (Ok (asks.Secure account)) within placed = plain_served body.Syntax tt tt
+  said_served (Ok (asks.Try request)) within placed = plain_served body.Syntax tt tt
   said_served (Ok (asks.Need account)) within placed = plain_served body.Syntax tt tt
   said_served (Ok (asks.Close market)) within placed = plain_served body.Syntax tt tt
   said_served (Ok (asks.Reopen market)) within placed = plain_served body.Syntax tt tt

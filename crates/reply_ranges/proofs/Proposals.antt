@@ -17,8 +17,9 @@ use Rattle.command_text.specs.declared.asked.Fault.TheVariants.{Syntax, Range}
 use Rattle.command_text.specs.declared.command.Body.TheVariants as body
 use Rattle.command_text.specs.declared.command.Command.TheVariants.{Clear}
 use Rattle.command_text.specs.declared.requests.ProposeRequest.{ProposeRequest}
+use Rattle.command_text.specs.declared.requests.TryRequest.{TryRequest}
 use Rattle.command_text.specs.Trades.{with_some}
-use Rattle.command_text.specs.Within.{IsAccount, IsBudget, IsMarket}
+use Rattle.command_text.specs.Within.{IsAccount, IsBudget, IsMarket, IsTryWithin}
 use Rattle.exact_num.specs.Fraction.{Fraction}
 use Rattle.exact_num.specs.Tests.{is_lowest}
 use Rattle.exact_num.proofs.Tested.{same_passes}
@@ -34,7 +35,7 @@ use Rattle.form.specs.declared.orders.Batch.{Batch}
 use Rattle.frac.specs.Range.{limit}
 use Rattle.frac.specs.Value.{fraction_of}
 use Rattle.frac.specs.ValueOf.{has_128_bits, value_of}
-use Rattle.order_book.specs.Book.{batch_of, market_of}
+use Rattle.order_book.specs.Book.{batch_of, info_in, market_of}
 use Rattle.order_book.specs.Markets.{MarketState}
 use Rattle.order_book.specs.Numbers.{numbers_of}
 use Rattle.order_book.specs.Refusals.{live_refusals}
@@ -64,18 +65,22 @@ use Rattle.proposal_lines.specs.Output.{proposing_reply_line}
 use Rattle.proposal_lines.specs.Proposed.{for_market, judged_effect, kept_by, offered, proposed_by, proposed_of, proposed_reply, stale_effect, unproved_effect}
 use Rattle.proposal_lines.specs.ProposingState.{ProposingState}
 use Rattle.proposal_lines.specs.Reads.{book_refusals, book_reply, positions_refusals, positions_reply, refused_by, refused_by_fault, unless_refused}
+use Rattle.proposal_lines.specs.Trials.{trial_of, trial_reply}
 use Rattle.proposal_lines.specs.declared.proposed.Proposed.{Proposed}
 use Rattle.proposal_lines.specs.declared.replies.ProposingReply.{ProposingReply}
 use Rattle.proposal_lines.specs.declared.replies.ProposingReply.TheVariants.{Told}
 use Rattle.proposal_lines.proofs.Clearing.{batch_is, chosen, clears_are_proved}
 use Rattle.proposal_lines.proofs.Kept.{best_proved, offered_proved, without_has}
+use Rattle.quote_lines.specs.Refusals.{info_refusals, quote_refusals}
+use Rattle.quote_lines.specs.Replies.{tried_for}
+use Rattle.quote_lines.proofs.Thresholds.{tried_orders_are_filled}
 use Rattle.reply_ranges.proofs.Outcomes.{outcomes_are_ranged}
 use Rattle.reply_ranges.proofs.Refusals.{IsOne, IsTold, of_book, of_ledger, refusal_is_told}
 use Rattle.reply_ranges.proofs.States.{IsNumbered, batch_is_within, batch_ranged, live_ranged}
 use Rattle.reply_ranges.proofs.Fields.{IsPlaced, IsPlacedIn}
 use Rattle.reply_ranges.proofs.InOrder.{told_in_order}
 use Rattle.reply_ranges.proofs.Kept.{AreKeptWithin, IsBestWithin, best_within, offer_within}
-use Rattle.reply_ranges.proofs.Others.{IsStanding, first_served, refusal_served, run_served}
+use Rattle.reply_ranges.proofs.Others.{IsStanding, first_served, info_told, one_told, refusal_served, run_served}
 use Rattle.reply_ranges.proofs.Texts.{IsServedText, proposal_text}
 
 -- ---- what is proposed is within its ranges
@@ -206,6 +211,17 @@ module _ (lines number : ℕ) (few : lines + 1 ≤ MAX_LINES) (is_line : IsLine 
       unless_served (positions_refusals exchange account market) (Told (told.Positions account market held))
       (All-append IsOne (book_refusals exchange market) (by_ledger own) (of_book (live_refusals exchange.book market)) (of_ledger own))
       (λ none. proposal_text number (told.Positions account market held) (is_line, (some, listed, recursion_from_All (IsPositionWithin account market) held (held_all account market))) tt)
+
+  pub trial_served : (request : TryRequest) → IsTryWithin request → IsServedReply (trial_reply exchange request)
+  trial_served request within =
+      let quote = request.quote in
+      let info = info_in exchange.book quote.market in
+      let tried = tried_for (batch_in exchange quote.market) request in
+      unless_served (quote_refusals exchange.book quote) (Told (told.Tried quote.market (trial_of tried)))
+      (All-append IsOne (info_refusals info quote) _ (info_told info quote) (one_told _ refusal.TooMany ((omega arith, omega arith), refl)))
+      (λ none.
+      let filled = tried_orders_are_filled exchange request stands.running.kept within none in
+      proposal_text number (told.Tried quote.market (trial_of tried)) (is_line, (within.quote.market, filled.fill.1, filled.covered.not_below_zero)) tt)
 
   fault_served : (fault : Fault) → IsPlaced fault → IsServedReply (refused_by_fault fault)
   fault_served Syntax is = refused_served refusal.Syntax ((omega arith, omega arith), refl)

@@ -213,7 +213,7 @@ module _ (number : ℕ) (state : SecuredState) (few : number ≤ MAX_LINES) (sta
         (λ free account amount is own. withdrawn_served command says within account amount is)
         (λ free. handed_served (Ok (asks.Command command)) says)
 
-    said_served : (said : Result Request Fault) → said_in SERVED line ≡ said → IfOk said RequestIsWithin → IsServedNow (secured_said number state line said)
+    pub said_served : (said : Result Request Fault) → said_in SERVED line ≡ said → IfOk said RequestIsWithin → IsServedNow (secured_said number state line said)
     said_served =
         by_kind (λ said. said_in SERVED line ≡ said → IfOk said RequestIsWithin → IsServedNow (secured_said number state line said))
         (λ account is within. secure_served account within) (λ account is within. need_served account within) command_served

@@ -43,7 +43,7 @@ use Rattle.reply_ranges.proofs.Fields.{IsPlacedIn, said_is_placed}
 use Rattle.reply_ranges.proofs.Kept.{AreKeptWithin, IsBestWithin}
 use Rattle.reply_ranges.proofs.Others.{IsStanding, said_served}
 use Rattle.reply_ranges.proofs.Owed.{IsOwedWithin, charged_owed, reply_owed}
-use Rattle.reply_ranges.proofs.Proposals.{book_served, clear_served, positions_served, proposed_in, proposed_served}
+use Rattle.reply_ranges.proofs.Proposals.{book_served, clear_served, positions_served, proposed_in, proposed_served, trial_served}
 use Rattle.reply_ranges.proofs.Texts.{IsServedText}
 
 -- before the line of a number
@@ -144,6 +144,7 @@ module _ (number : ℕ) (state : ProposingState) (few : number ≤ MAX_LINES) (s
       (λ market within placed. (book_served stands.lines number some_room is_line state stands.exchange stands.sound stands.kept market within, stands.kept))
       (λ account market within placed.
       (positions_served stands.lines number some_room is_line state stands.exchange stands.sound stands.kept account market within.0 within.1, stands.kept))
+      (λ request within placed. (trial_served stands.lines number some_room is_line state stands.exchange stands.sound stands.kept request within, stands.kept))
       (λ said other within placed.
       subst IsServedNow (sym (other.served number state line))
       (said_served stands.lines number some_room is_line state.exchange stands.exchange said within placed, stands.kept))

@@ -115,6 +115,7 @@ module _ (number : ℕ) (state : ServingState) (few : number ≤ MAX_LINES) (sta
     said_serving (Ok (asks.Command command)) is within = command_served (Ok (asks.Command command)) is (ended_in exchange command) (bars state.closed exchange command)
     said_serving (Ok (asks.Quote request)) is within = handed_served (Ok (asks.Quote request)) is None
     said_serving (Ok (asks.Price request)) is within = handed_served (Ok (asks.Price request)) is None
+    said_serving (Ok (asks.Try request)) is within = handed_served (Ok (asks.Try request)) is None
     said_serving (Ok (asks.Margin request)) is within = handed_served (Ok (asks.Margin request)) is None
     said_serving (Ok (asks.Secure account)) is within = handed_served (Ok (asks.Secure account)) is None
     said_serving (Ok (asks.Need account)) is within = handed_served (Ok (asks.Need account)) is None

@@ -1,7 +1,7 @@
 //! Laws of what is written, and of the journals that it is: each is the contract of a function that
 //! does nothing.
 ghost use Rattle.reply_ranges.specs.Accepted.{AnswersAreWithin, RunsAreAccepted};
-ghost use Rattle.reply_ranges.specs.Audits.{ServedLinesAreAccepted, ServedMessagesAreAccepted};
+ghost use Rattle.reply_ranges.specs.Audits.{ServedLinesAreAccepted, ServedMembersAreAccepted, ServedMessagesAreAccepted};
 ghost use Rattle.reply_ranges.specs.Books.{BooksAreProposedFor, BooksAreTold};
 ghost use Rattle.reply_ranges.specs.Laws.{FieldsAreWithin, OutcomesAreRanged, RepliesAreWithin};
 
@@ -38,15 +38,20 @@ pub fn runs_are_accepted()
 
 /// Whatever the lines of an input are, within the limits that a run keeps to which finishes, an
 /// audit of what is written for them says yes: quotes, prices, margins, proposals, batches that
-/// were cleared as proposals had it, and all replies of a run.
+/// were cleared as proposals had it, what is asked between lines, and all replies of a run.
 pub fn served_lines_are_accepted()
     ensures { ServedLinesAreAccepted }
 {}
 
-/// So does an audit of what is written for messages of sessions: replies to accepted messages, and
-/// lines of the gate.
+/// So does an audit of what is written for messages of sessions: replies to accepted messages, what
+/// sessions are told that ask, and lines of the gate.
 pub fn served_messages_are_accepted()
     ensures { ServedMessagesAreAccepted }
+{}
+
+/// And of what is written for messages by the rule of who may say what: its refusals among them.
+pub fn served_members_are_accepted()
+    ensures { ServedMembersAreAccepted }
 {}
 
 /// Whatever the lines of an input are, within the limits that a run keeps to which finishes, one

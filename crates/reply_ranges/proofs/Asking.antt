@@ -1,0 +1,66 @@
+-- Between lines some may ask: what is told is sound, and what is left stands before the next line.
+use Rattle.std.proofs.Common.{◌≡◌, ◌≤◌, ◌<◌, ℕ, ◌+◌, ◌-◌, List, [], ◌∷◌, ◌++◌, Bool, true, false, if◌then◌else◌, subst, arith}
+use Rattle.asked_lines.specs.Asked.{AskedState, asked_by, asked_step, asking_first, is_question, other_step, question_step}
+use Rattle.asked_lines.specs.Standing.{StandsAsked}
+use Rattle.limits.specs.declared.TheConstants.{MAX_LINES}
+use Rattle.reply_ranges.proofs.Reports.{IsAccepted}
+use Rattle.reply_ranges.proofs.Runs.{IsAnswered}
+
+-- a sound line, with its line feed
+pub record IsOneLine (bytes : List ℕ) : Type 0 where
+  pub text : List ℕ
+  pub is : bytes ≡ text ++ 10 ∷ []
+  pub accepted : IsAccepted text
+
+module _ {S : Type 0} (ask : ℕ → S → List ℕ → List ℕ) (step : ℕ → S → List ℕ → List ℕ × S) (Stands : ℕ → S → Type 0)
+    (passes : (number : ℕ) (state : S) → Stands number state → Stands (number + 1) state)
+    (tells : (number : ℕ) (state : S) (body : List ℕ) → number ≤ MAX_LINES → Stands number state → IsOneLine (ask number state body))
+    (answers : (number : ℕ) (state : S) (line : List ℕ) → number ≤ MAX_LINES → Stands number state → IsAnswered (Stands (number + 1)) (step number state line)) where
+  pub none_asked : (start : S) → Stands 1 start → StandsAsked Stands 1 (asking_first start)
+  none_asked start h = (omega arith, h)
+
+  module _ (number : ℕ) (state : AskedState S) (h : StandsAsked Stands number state) where
+    abbrev own : ℕ
+    own = number - state.asked
+
+    -- the number among those that ask nothing goes on
+    goes : own + 1 ≡ (number + 1) - state.asked
+    goes = omega (arith, h.0)
+
+    -- or stays
+    stays : own ≡ (number + 1) - (state.asked + 1)
+    stays = omega (arith, h.0)
+
+    pub passes_asked : StandsAsked Stands (number + 1) state
+    passes_asked = (omega (arith, h.0), subst (λ n. Stands n state.inner) goes (passes own state.inner h.1))
+
+    module _ (few : number ≤ MAX_LINES) (line : List ℕ) where
+      few_own : own ≤ MAX_LINES
+      few_own = omega (arith, few)
+
+      question_answered : IsAnswered (StandsAsked Stands (number + 1)) (question_step ask number state line)
+      question_answered =
+          let told = tells own state.inner (asked_by line) few_own h.1 in
+          record {
+            text = told.text;
+            is = told.is;
+            accepted = told.accepted;
+            stands = (omega (arith, h.0), subst (λ n. Stands n state.inner) stays h.1);
+          }
+
+      other_answered : IsAnswered (StandsAsked Stands (number + 1)) (other_step step number state line)
+      other_answered =
+          let told = answers own state.inner line few_own h.1 in
+          record {
+            text = told.text;
+            is = told.is;
+            accepted = told.accepted;
+            stands = (omega (arith, h.0), subst (λ n. Stands n (step own state.inner line).1) goes told.stands);
+          }
+
+      by : (b : Bool) → IsAnswered (StandsAsked Stands (number + 1)) (if b then question_step ask number state line else other_step step number state line)
+      by true = question_answered
+      by false = other_answered
+
+      pub asked_answers : IsAnswered (StandsAsked Stands (number + 1)) (asked_step ask step number state line)
+      asked_answers = by (is_question line)
