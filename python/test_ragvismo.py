@@ -208,6 +208,8 @@ class Clearing(unittest.TestCase):
             quoted = exchange.quote(market=1, option=put(12))
             self.assertEqual((quoted.bid, quoted.ask), ("never", 5))
             self.assertEqual(exchange.price(market=1, option=put(12)), quoted)
+            tried = exchange.try_order(market=1, side="buy", option=put(12), price=5, quantity=3)
+            self.assertEqual(tried, (1, 1, "optimal"))
             spread = [(1, call(10)), (-1, call(12))]
             number = exchange.bundle(account=1, market=1, side="buy", legs=spread, price=2)
             self.assertEqual(exchange.balance(account=1), (90, 2))
@@ -225,6 +227,9 @@ class Clearing(unittest.TestCase):
             refusals: dict[tuple[Any, ...], Callable[[], object]] = {
                 ("Margin", 14, None, "13"): lambda: exchange.withdraw(account=2, amount=1),
                 ("Range", 8, 2, None): lambda: exchange.open(account=0),
+                ("Range", 8, 5, None): lambda: exchange.try_order(
+                    market=1, side="sell", option=put(12), price=-1
+                ),
                 ("Funds", 9, None, None): lambda: exchange.buy(
                     account=1, market=1, option=call(1), price=500
                 ),

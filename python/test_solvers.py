@@ -8,6 +8,7 @@ import random
 import sys
 import unittest
 from fractions import Fraction
+from typing import Any
 from unittest import mock
 
 sys.path.append(str(pathlib.Path(__file__).resolve().parent))
@@ -124,6 +125,51 @@ class Rechecks(unittest.TestCase):
         for count, condition in ((most, "Cover"), (most + 1, "BatchShape")):
             proposal = Proposal(tuple(it.fills), it.liability, [{"split": 1}] * count, measure)
             self.assertEqual(self.failed(batch, proposal), condition)
+
+    def test_faults_of_a_match(self) -> None:
+        option, other = call(10), call(12)
+        batch = Batch([buy(option, 6, 2), sell(option, 4, 1), sell(other, 1, 1)])
+        origin = (ORIGIN,)
+        Proposal((Fraction(1), Fraction(1), Fraction(0)), Fraction(0), "match", origin).check(batch)
+        for fills, liability in (((1, 1, 0), -1), ((2, 1, 0), 0), ((1, 0, 1), 0)):
+            proposal = Proposal(tuple(map(Fraction, fills)), Fraction(liability), "match", origin)
+            self.assertEqual(self.failed(batch, proposal), "Cover", fills)
+
+    def test_faults_of_cells(self) -> None:
+        """A call on both underlyings against one on the first and the second itself."""
+        both, one, second = call(10, 1, 1), call(10, 1, 0), call(0, 0, 1)
+        batch = Batch([buy(both, 3), sell(one, 1), sell(second, 1)])
+        first: dict[str, Any] = {"leaf": [2, "1", 3, "1"]}
+        last: dict[str, Any] = {"leaf": []}
+
+        def proposed(*nodes: Any) -> Proposal:
+            origin = (State((1, 0, 0), Fraction(1)),)
+            return Proposal((Fraction(1),) * 3, Fraction(0), {"cells": list(nodes)}, origin)
+
+        split = {"split": 1}
+        proposed(split, first, last).check(batch)
+        proposed(split, {"full": [2, 3], "leaf": []}, last).check(batch)
+        proposed(split, {"bound": 2, "minus": [], "plus": [1, "1"]}, first, last).check(batch)
+        for condition, node in (
+            ("Cover", {"leaf": [2, "2", 3, "1"]}),
+            ("Cover", {"leaf": [2, "-1", 3, "1"]}),
+            ("Cover", {"full": [1], "leaf": []}),
+            ("Cover", {"full": [2, 3], "leaf": [3, "1"]}),
+            ("Cover", split),
+            ("BatchShape", {"leaf": [4, "1"]}),
+            ("BatchShape", {"bound": 2, "minus": [], "plus": []}),
+        ):
+            ends = (first, last, last) if node == split else (last,)
+            self.assertEqual(self.failed(batch, proposed(split, node, *ends)), condition, node)
+        for condition, nodes in (
+            ("Cover", (first,)),
+            ("Cover", (last,)),
+            ("Cover", ({"split": 3}, first, last)),
+            ("BatchShape", (split, first)),
+            ("BatchShape", (split, first, last, last)),
+            ("BatchShape", ({"split": 4}, first, last)),
+        ):
+            self.assertEqual(self.failed(batch, proposed(*nodes)), condition, nodes)
 
 
 @wants("scipy")

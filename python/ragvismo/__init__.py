@@ -18,6 +18,7 @@ from ragvismo.exchange import (
     Price,
     Proposed,
     Settled,
+    Trial,
 )
 from ragvismo.faults import (
     BadChain,
@@ -62,7 +63,7 @@ from ragvismo.version import __version__
 __all__ = ["__version__", "solvers"]
 __all__ += ["Certificate", "Cleared", "State", "clear", "clear_many", "commands_of"]
 __all__ += ["Balance", "Book", "Exchange", "Margin", "Need", "Payout", "Position"]
-__all__ += ["Price", "Proposed"]
+__all__ += ["Price", "Proposed", "Trial"]
 __all__ += ["BadChain", "BadFrame", "BadJournal", "CheckFailed", "Ended", "NoCover", "NoMeasure"]
 __all__ += ["NoProgram", "RagvismoError", "Refused", "Settled", "TimedOut", "Unproved"]
 __all__ += ["Chain", "Distribution", "JournalFrames", "PriceBounds", "Proposal", "import_chain"]

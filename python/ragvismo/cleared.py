@@ -15,8 +15,9 @@ if TYPE_CHECKING:
     import pandas
 
 Mark = Literal["optimal", "bounded", "wide", "budget"]
-# A cover as lines tell it: a word, such as line, or the nodes of a tree.
-Cover = str | list[dict[str, Any]]
+# A cover as lines tell it: a word, line or match; the nodes of a tree; or under `cells` those of a
+# tree over classes.
+Cover = str | list[dict[str, Any]] | dict[str, list[dict[str, Any]]]
 
 
 class State(NamedTuple):
@@ -51,7 +52,7 @@ class Certificate:
     """What proves a cleared line: the cover and the measure, both empty where the mark is neither
     `optimal` nor `bounded`.
 
-    `cover` is `line` on one underlying, and on several the nodes of a tree (docs/CERTIFICATES.md).
+    `cover` is a word, the nodes of a tree, or those of a tree over classes (docs/CERTIFICATES.md).
     `text` is the whole line, and `path` the program that told it, where that is known.
     """
 

@@ -61,6 +61,15 @@ class Price(NamedTuple):
     ask: int | Literal["never", "unmarked"]
 
 
+class Trial(NamedTuple):
+    """What a clear would do with one order more: how much of it would be filled, the surplus of all
+    orders in ticks, and whether it is proved the greatest."""
+
+    fill: Fraction
+    surplus: Fraction
+    mark: Literal["optimal", "wide", "budget"]
+
+
 class Margin(NamedTuple):
     """The least liability, in ticks, that covers what an account's positions in a market owe, and
     the state (t, s) at which they owe it; or `unbounded` with its ray, or `wide` or `budget`
@@ -349,6 +358,22 @@ class Exchange:
         clears of `budget` units each, at most 60 a side."""
         reply = self.ask(_line("price", market, budget, quantity, *_about(option)))
         return Price(bid=_told(reply["bid"]), ask=_told(reply["ask"]))
+
+    def try_order(
+        self,
+        *,
+        market: int,
+        side: Side,
+        option: Option,
+        price: int,
+        quantity: int = 1,
+        budget: int = BUDGET,
+    ) -> Trial:
+        """What would be filled of an order for `quantity` of one option, if the market were cleared
+        now with it at the end, by the line `try`: in one clear of `budget` units, which charges
+        nothing. No order is placed."""
+        reply = self.ask(_line("try", market, budget, side, price, quantity, *_about(option)))
+        return Trial(Fraction(reply["fill"]), Fraction(reply["surplus"]), reply["mark"])
 
     def margin(self, *, account: int, market: int, budget: int = MARGIN_BUDGET) -> Margin:
         """What the positions of an account in a market may owe, within a budget of 1 to 20,000

@@ -12,9 +12,10 @@ from dataclasses import dataclass
 from fractions import Fraction
 from typing import Any, NamedTuple
 
+from ragvismo import cells
 from ragvismo.cleared import Cover, State, price_by, spelled
 from ragvismo.faults import Unproved
-from ragvismo.orders import Batch, Order
+from ragvismo.orders import Batch, Leg, Order
 
 Vector = list[Fraction]
 # The most nodes times legs of a tree in a proposal.
@@ -70,15 +71,20 @@ class Proposal:
 
     def check(self, batch: Batch) -> None:
         """Rechecks the proposal for a batch by plain sums; raises `Unproved`."""
+        check_shape(batch, self)
         check_fills(batch, self.fills)
         if self.surplus(batch) < 0:
             raise Unproved("Cover", f"the surplus is {self.surplus(batch)}")
+        legs = held_legs(batch, self.fills)
         if self.cover == "line":
             check_line(batch, self.fills, self.liability)
+        elif self.cover == "match":
+            check_match(batch, self.fills, self.liability)
         elif isinstance(self.cover, list):
-            check_tree(self.cover, held_legs(batch, self.fills), self.liability, batch.underlyings)
-        else:
-            raise Unproved("BatchShape", f"a cover {self.cover} is not known here")
+            check_tree(self.cover, legs, self.liability, batch.underlyings)
+        elif isinstance(self.cover, dict):
+            owed = [(it.form, it.size if it.is_long else -it.size) for it in legs]
+            cells.check_cells(self.cover["cells"], owed, self.liability, batch.underlyings + 1)
         check_measure(self.measure)
 
 
@@ -103,11 +109,35 @@ def held_legs(batch: Batch, fills: Sequence[Fraction]) -> list[HeldLeg]:
     ]
 
 
-def check_fills(batch: Batch, fills: Sequence[Fraction]) -> None:
+def check_count(batch: Batch, fills: Sequence[Fraction]) -> None:
+    """There is a fill for each order."""
     if len(fills) != len(batch.orders):
         raise Unproved(
             "BatchShape", f"there are {len(fills)} fills, and {len(batch.orders)} orders"
         )
+
+
+def check_shape(batch: Batch, proposal: Proposal) -> None:
+    """There is a fill for each order, and cover and measure are of the batch's underlyings."""
+    cover, legs = proposal.cover, sum(len(it.legs) for it in batch.orders)
+    check_count(batch, proposal.fills)
+    if any(len(it.entries) != batch.underlyings + 1 for it in proposal.measure):
+        raise Unproved("BatchShape", f"a state is not one on {batch.underlyings} underlyings")
+    if isinstance(cover, dict):
+        forms = [leg.option.form for order in batch.orders for leg in order.legs]
+        cells.check_shape(cover["cells"], len(cells.classes_of(forms)))
+    elif cover == "line" and batch.underlyings != 1:
+        raise Unproved("BatchShape", "a cover line is on one underlying")
+    elif isinstance(cover, list):
+        if batch.underlyings == 1:
+            raise Unproved("BatchShape", "a tree is on several underlyings")
+        if len(cover) * legs > MOST_WALKED:
+            raise Unproved("BatchShape", f"{len(cover)} nodes times {legs} legs are too many")
+    elif cover not in ("line", "match"):
+        raise Unproved("BatchShape", f"a cover {cover} is not known here")
+
+
+def check_fills(batch: Batch, fills: Sequence[Fraction]) -> None:
     for place, (order, fill) in enumerate(zip(batch.orders, fills), 1):
         if not 0 <= fill <= order.quantity:
             raise Unproved("Fill", f"fill {place} is {fill}, and the quantity {order.quantity}")
@@ -132,11 +162,22 @@ def line_states(batch: Batch) -> list[tuple[int, int]]:
 
 
 def check_line(batch: Batch, fills: Sequence[Fraction], liability: Fraction) -> None:
-    if batch.underlyings != 1:
-        raise Unproved("BatchShape", "a cover line is on one underlying")
     for state in line_states(batch):
         if net_of(batch.orders, fills, state) > liability * state[0]:
             raise Unproved("Cover", f"more is owed at the state {state}")
+
+
+# Any number of underlyings.
+
+
+def check_match(batch: Batch, fills: Sequence[Fraction], liability: Fraction) -> None:
+    if liability:
+        raise Unproved("Cover", f"a match owes nothing, and the liability is {liability}")
+    left: dict[tuple[Leg, ...], Fraction] = {}
+    for order, fill in zip(batch.orders, fills):
+        left[order.legs] = left.get(order.legs, Fraction(0)) + order.sign * fill
+    if any(left.values()):
+        raise Unproved("Cover", "more is bought than sold of a bundle, or less")
 
 
 # Several.
@@ -146,8 +187,6 @@ def check_tree(
     nodes: list[dict[str, Any]], legs: Sequence[HeldLeg], liability: Fraction, underlyings: int
 ) -> None:
     """Walks a tree in preorder; `Unproved` at the first leaf that is not closed."""
-    if len(nodes) * len(legs) > MOST_WALKED:
-        raise Unproved("BatchShape", f"{len(nodes)} nodes times {len(legs)} legs are too many")
     most = [liability, *[Fraction(0)] * underlyings]
     ahead: list[dict[int, int]] = [{}]  # the signs above each subtree that is still to come
     for node in nodes:

@@ -18,7 +18,7 @@ from ragvismo.covers import NEAR, Numbers, least_excess, unit_of
 from ragvismo.faults import NoCover, TimedOut
 from ragvismo.orders import Batch
 from ragvismo.program import Deadline
-from ragvismo.proposals import Proposal, check_fills, check_measure, line_states
+from ragvismo.proposals import Proposal, check_count, check_fills, check_measure, line_states
 
 Entries = tuple[int, ...]
 ROUNDS, STARTS = 400, 12
@@ -46,6 +46,7 @@ def certify(
     no cover was found, with the reason, or the fills leave less than nothing, and `TimedOut`.
     """
     whole, states = tuple(map(Fraction, fills)), tuple(measure)
+    check_count(batch, whole)
     check_fills(batch, whole)
     check_measure(states)
     if batch.underlyings == 1:

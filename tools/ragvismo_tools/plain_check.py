@@ -10,17 +10,32 @@ that cannot be read, get one line on standard error and status 2.
 from __future__ import annotations
 
 from collections.abc import Callable, Mapping, Sequence
-from typing import Any, NoReturn, Protocol
+from typing import Any, NoReturn
 import json
 import math
-import re
 import sys
 from fractions import Fraction
 from itertools import pairwise
 
+from ragvismo import cells
+from ragvismo.faults import Unproved
 from ragvismo_tools.ending import ended
+from ragvismo_tools.kinds import (
+    Either,
+    Fault,
+    InTurn,
+    Keys,
+    Kind,
+    Many,
+    Number,
+    Text,
+    Told,
+    Truth,
+    Value,
+    Word,
+    demand,
+)
 
-LIMIT = 2**127 - 1
 # The most nodes times legs of a tree in a line marked bounded.
 MOST_WALKED = 2_000_000
 REASONS = (
@@ -49,29 +64,6 @@ BESIDE = {
     27: "Quota",
 }
 GATE = {15: "Malformed", 16: "Old", 17: "Ahead", 18: "Changed", 19: "Sessions"}
-WHOLE = re.compile(r"0|-?[1-9][0-9]*")
-FRACTION = re.compile(r"(0|-?[1-9][0-9]*)|(-?[1-9][0-9]*)/([2-9]|[1-9][0-9]+)")
-
-
-# A value of JSON, and an object of it.
-Value = dict[str, Any]
-Test = Callable[[Any], bool]
-
-
-class Kind(Protocol):
-    """A kind of values. Each walks over one value three times: its shape, the grammar of its texts,
-    its ranges."""
-
-    def shape(self, value: Any) -> None:
-        ...
-
-    def grammar(self, value: Any) -> None:
-        ...
-
-    def ranges(self, value: Any) -> None:
-        ...
-
-
 Kinds = Mapping[str, Kind]
 # What a reply of a kind has besides its line and its name.
 Shapes = Callable[[Value], Kinds]
@@ -83,177 +75,16 @@ Leg = tuple[Fraction, Sequence[int], bool]
 Signs = Mapping[int, bool]
 
 
-class Fault(Exception):
-    """The first thing that is wrong with a line, by its name in the report."""
-
-
-def demand(holds: object, reason: str) -> None:
-    if not holds:
-        raise Fault(reason)
-
-
-# Kinds of values. Each walks over one value three times: its shape, the grammar of its texts, its
-# ranges.
-
-
-class Number:
-    def __init__(self, least: int, greatest: int) -> None:
-        self.least, self.greatest = least, greatest
-
-    def shape(self, value: Any) -> None:
-        demand(type(value) is int and -(2**63) <= value < 2**64, "Shape")
-
-    def grammar(self, value: Any) -> None:
-        pass
-
-    def ranges(self, value: Any) -> None:
-        demand(self.least <= value <= self.greatest, "Range")
-
-
-class Text:
-    """A fraction, or a whole number alone, of a least value and a greatest size."""
-
-    def __init__(self, fraction: bool, least: int | None = None, size: int = LIMIT) -> None:
-        self.fraction, self.least, self.size = fraction, least, size
-
-    def shape(self, value: Any) -> None:
-        demand(type(value) is str, "Shape")
-
-    def grammar(self, value: Any) -> None:
-        demand((FRACTION if self.fraction else WHOLE).fullmatch(value), "Number")
-        parts = [abs(int(part)) for part in value.split("/")]
-        if len(parts) == 2 and max(parts) <= LIMIT:
-            demand(math.gcd(*parts) == 1, "Number")
-
-    def ranges(self, value: Any) -> None:
-        demand(all(abs(int(part)) <= self.size for part in value.split("/")), "Range")
-        demand(self.least is None or Fraction(value) >= self.least, "Range")
-
-
-class Told:
-    """A word, or else a text of this kind."""
-
-    def __init__(self, text: Kind, *words: Any) -> None:
-        self.text, self.words = text, words
-
-    def shape(self, value: Any) -> None:
-        self.text.shape(value)
-
-    def grammar(self, value: Any) -> None:
-        if value not in self.words:
-            self.text.grammar(value)
-
-    def ranges(self, value: Any) -> None:
-        if value not in self.words:
-            self.text.ranges(value)
-
-
-class Word:
-    def __init__(self, *words: Any) -> None:
-        self.words = words
-
-    def shape(self, value: Any) -> None:
-        is_kind = isinstance(value, type(self.words[0])) and not isinstance(value, bool)
-        demand(is_kind and value in self.words, "Shape")
-
-    def grammar(self, value: Any) -> None:
-        pass
-
-    ranges = grammar
-
-
-class Truth:
-    """True or false."""
-
-    def shape(self, value: Any) -> None:
-        demand(type(value) is bool, "Shape")
-
-    def grammar(self, value: Any) -> None:
-        pass
-
-    ranges = grammar
-
-
-class Many:
-    """A list of one kind; lengths of the shape, the most items of the range, and a further test of
-    the range."""
-
-    def __init__(
-        self,
-        kind: Kind,
-        least: int = 0,
-        most: int | None = None,
-        range_most: int | None = None,
-        test: Test | None = None,
-    ) -> None:
-        self.kind, self.least, self.most, self.range_most, self.test = (
-            kind,
-            least,
-            most,
-            range_most,
-            test,
-        )
-
-    def shape(self, value: Any) -> None:
-        demand(type(value) is list and len(value) >= self.least, "Shape")
-        demand(self.most is None or len(value) <= self.most, "Shape")
-        for item in value:
-            self.kind.shape(item)
-
-    def grammar(self, value: Any) -> None:
-        for item in value:
-            self.kind.grammar(item)
-
-    def ranges(self, value: Any) -> None:
-        demand(self.range_most is None or len(value) <= self.range_most, "Range")
-        for item in value:
-            self.kind.ranges(item)
-        demand(self.test is None or self.test(value), "Range")
-
-
-class Keys:
-    """An object with exactly these keys, and a further test of the range."""
-
-    def __init__(self, test: Test | None = None, **kinds: Kind) -> None:
-        self.kinds, self.test = kinds, test
-
-    def shape(self, value: Any) -> None:
-        demand(type(value) is dict and value.keys() == self.kinds.keys(), "Shape")
-        for key, kind in self.kinds.items():
-            kind.shape(value[key])
-
-    def grammar(self, value: Any) -> None:
-        for key, kind in self.kinds.items():
-            kind.grammar(value[key])
-
-    def ranges(self, value: Any) -> None:
-        for key, kind in self.kinds.items():
-            kind.ranges(value[key])
-        demand(self.test is None or self.test(value), "Range")
-
-
-class Either:
-    """One of several kinds, told by a test of the value."""
-
-    def __init__(self, pick: Callable[[Any], Kind]) -> None:
-        self.pick = pick
-
-    def shape(self, value: Any) -> None:
-        self.pick(value).shape(value)
-
-    def grammar(self, value: Any) -> None:
-        self.pick(value).grammar(value)
-
-    def ranges(self, value: Any) -> None:
-        self.pick(value).ranges(value)
-
-
 def is_option(form: Sequence[int]) -> bool:
     return (
         abs(form[0]) <= 10**9
         and all(abs(weight) <= 1000 for weight in form[1:])
         and any(form[1:])
     )
+
+
+def does_rise(classes: Sequence[int]) -> bool:
+    return all(one < after for one, after in pairwise(classes))
 
 
 def has_few_options(order: Value) -> bool:
@@ -299,7 +130,7 @@ ORDERS = {
 BOOK = Many(BUNDLE, range_most=256, test=do_rise)
 LEAF = Keys(leaf=Many(Keys(at=PLACE, by=FRACTIONS)))
 NODE = Either(lambda value: LEAF if type(value) is dict and "leaf" in value else Keys(split=PLACE))
-LINE_COVER, TREE_COVER = Word("line"), Many(NODE)
+LINE_COVER, MATCH_COVER, TREE_COVER = Word("line"), Word("match"), Many(NODE)
 
 
 def cover_of(value: Any) -> Kind:
@@ -308,8 +139,41 @@ def cover_of(value: Any) -> Kind:
 
 
 COVER = Either(cover_of)
+# Covers that proposals and lines marked bounded have beside.
+CLASS = Number(1, 1024)
+FLAT = InTurn(CLASS, FRACTIONS, test=does_rise)
+CELL_KINDS = {
+    "bound": Keys(bound=CLASS, minus=FLAT, plus=FLAT),
+    "full": Keys(full=Many(CLASS, test=lambda full: bool(full) and does_rise(full)), leaf=FLAT),
+    "leaf": Keys(leaf=FLAT),
+    "split": Keys(split=CLASS),
+}
+
+
+def cell_of(value: Any) -> Kind:
+    keys = value if type(value) is dict else ()
+    return CELL_KINDS[next((key for key in CELL_KINDS if key in keys), "split")]
+
+
+def are_few_cells(cover: Value) -> bool:
+    """Whether there are not too many nodes, and not too many classes in their lists."""
+    lists = [each for node in cover["cells"] for each in node.values() if type(each) is list]
+    fractions = sum(type(it) is str for each in lists for it in each)
+    return len(cover["cells"]) <= 100_000 and sum(map(len, lists)) - fractions <= 1_000_000
+
+
+CELLS = Keys(cells=Many(Either(cell_of)), test=are_few_cells)
+PROPOSED_COVER = Either(
+    lambda value: CELLS
+    if type(value) is dict
+    else MATCH_COVER
+    if value == "match"
+    else cover_of(value)
+)
 STATE = Many(Text(False, least=0), 2, 9, test=lambda state: any(entry != "0" for entry in state))
-CERTIFICATE = Keys(cover=COVER, measure=Many(Keys(state=STATE, weight=FRACTIONS)))
+MEASURE = Many(Keys(state=STATE, weight=FRACTIONS))
+CERTIFICATE = Keys(cover=COVER, measure=MEASURE)
+PROOF = Keys(cover=PROPOSED_COVER, measure=MEASURE)
 WIDE = Keys(left=FRACTIONS, operator=Word("add", "mul", "div", "whole"), right=FRACTIONS)
 PAYOUT = Keys(account=ACCOUNT, amount=AMOUNT, batch=BATCH, order=ORDER)
 
@@ -333,7 +197,7 @@ def bounded(value: Any) -> Kinds:
     return {
         "batch": BATCH,
         "bound": FRACTIONS,
-        "certificate": CERTIFICATE,
+        "certificate": PROOF,
         "fills": Many(FRACTIONS),
         "liability": FRACTIONS,
         "mark": Word("bounded"),
@@ -670,6 +534,49 @@ def balanced(orders: Sequence[Signed]) -> bool:
     return not any(sums.values())
 
 
+def fits(cover: Any, bundles: Sequence[Bundle], entries: int, is_proposed: bool) -> bool:
+    """Whether the cover is one of the batch."""
+    if type(cover) is dict:
+        classes = cells.classes_of(form for bundle in bundles for _, form in bundle)
+        return not refuted(lambda: cells.check_shape(cover["cells"], len(classes)))
+    if type(cover) is str:
+        return cover == "match" or entries == 2
+    return entries > 2 and (not is_proposed or len(cover) * sum(map(len, bundles)) <= MOST_WALKED)
+
+
+def holds(
+    cover: Any,
+    listed: Sequence[Value],
+    orders: Sequence[Signed],
+    liability: Fraction,
+    entries: int,
+) -> bool:
+    """Whether the cover shows that the liability is enough."""
+    if cover == "line":
+        return line_holds(orders, liability)
+    if cover == "match":
+        return liability == 0 and balanced(orders)
+    if type(cover) is dict:
+        owed = [
+            (tuple(form), signed * count) for signed, bundle in orders for count, form in bundle
+        ]
+        return not refuted(lambda: cells.check_cells(cover["cells"], owed, liability, entries))
+    legs = [
+        (abs(signed * count), form, sign(each) * count > 0)
+        for each, (signed, bundle) in zip(listed, orders)
+        for count, form in bundle
+    ]
+    return tree_holds(legs, liability, cover, entries)
+
+
+def refuted(check: Callable[[], None]) -> bool:
+    try:
+        check()
+    except Unproved:
+        return True
+    return False
+
+
 def judge(reply: Value) -> None:
     """Raises the first condition of the verdict that does not hold."""
     listed, fills = reply["orders"], [Fraction(each) for each in reply["fills"]]
@@ -690,14 +597,10 @@ def judge(reply: Value) -> None:
         if optimal
         else []
     )
-    demand(
-        len(fills) == len(listed) and not (optimal and (cover == "line") != (entries == 2)),
-        "BatchShape",
-    )
+    demand(len(fills) == len(listed), "BatchShape")
+    demand(not optimal or fits(cover, bundles, entries, reply["mark"] == "bounded"), "BatchShape")
     demand(all(len(form) == entries for bundle in bundles for _, form in bundle), "BatchShape")
     demand(all(len(state) == entries for state, _ in points), "BatchShape")
-    if reply["mark"] == "bounded" and cover != "line":
-        demand(len(cover) * sum(map(len, bundles)) <= MOST_WALKED, "BatchShape")
     demand(all(0 <= fill <= each["quantity"] for fill, each in zip(fills, listed)), "Fill")
 
     orders = [(fill * sign(each), bundle) for fill, each, bundle in zip(fills, listed, bundles)]
@@ -707,15 +610,7 @@ def judge(reply: Value) -> None:
     if not optimal:
         demand(liability == 0 and balanced(orders), "Cover")
         return
-    if cover == "line":
-        demand(line_holds(orders, liability), "Cover")
-    else:
-        legs = [
-            (fill * abs(count), form, sign(each) * count > 0)
-            for fill, each, bundle in zip(fills, listed, bundles)
-            for count, form in bundle
-        ]
-        demand(tree_holds(legs, liability, cover, entries), "Cover")
+    demand(holds(cover, listed, orders, liability, entries), "Cover")
     demand(
         all(weight >= 0 for _, weight in points)
         and sum(weight * state[0] for state, weight in points) == 1,

@@ -5,12 +5,15 @@ import json
 import math
 import re
 from collections.abc import Callable, Sequence
+from itertools import pairwise
 from typing import Any, NoReturn
 
 LIMIT = 2**127 - 1
 KEYS = ("certificate", "fills", "liability", "orders", "surplus")
 WHOLE = re.compile(r"0|-?[1-9][0-9]*")
 FRACTION = re.compile(r"(0|-?[1-9][0-9]*)|(-?[1-9][0-9]*)/([2-9]|[1-9][0-9]+)")
+# The most nodes of a cover by cells, and the most classes in their lists.
+MOST_CELLS, MOST_LISTED = 100_000, 1_000_000
 # How deep the lists and objects of a text may stand in one another.
 DEPTH = 127
 
@@ -112,12 +115,66 @@ def node(value: Any, at: str) -> None:
         whole(value["split"], f"the split of {at}", 1, 1024)
 
 
+def classes(value: Any, at: str) -> None:
+    """Classes that rise."""
+    listed(value, at, lambda each, place: whole(each, place, 1, 1024))
+    for one, after in pairwise(value):
+        if one >= after:
+            wrong(f"{at} has the class {after} behind {one}, and its classes rise")
+
+
+def flat(value: Any, at: str) -> None:
+    """Classes that rise, each before its multiplier."""
+    listed(value, at, lambda each, place: None)
+    if len(value) % 2:
+        wrong(f"{at} ends with a class, behind which its multiplier is missing")
+    classes(value[::2], f"the classes of {at}")
+    listed(value[1::2], f"the multipliers of {at}", fraction)
+
+
+def cell(value: Any, at: str) -> None:
+    if type(value) is dict and "bound" in value:
+        keyed(value, at, ("bound", "minus", "plus"))
+        whole(value["bound"], f"the bound of {at}", 1, 1024)
+        flat(value["minus"], f"the minus of {at}")
+        flat(value["plus"], f"the plus of {at}")
+    elif type(value) is dict and "leaf" in value:
+        keyed(value, at, ("full", "leaf") if "full" in value else ("leaf",))
+        flat(value["leaf"], f"the leaf of {at}")
+        classes(value.get("full", [1]), f"the full of {at}")
+        if value.get("full") == []:
+            wrong(f"the full of {at} is empty, and is left out then")
+    else:
+        keyed(value, at, ("split",))
+        whole(value["split"], f"the split of {at}", 1, 1024)
+
+
+def cells(value: Any, at: str) -> None:
+    keyed(value, at, ("cells",))
+    listed(value["cells"], f"the cells of {at}", cell)
+    if len(value["cells"]) > MOST_CELLS:
+        wrong(f"{at} has {len(value['cells'])} nodes, and may have {MOST_CELLS}")
+    lists = [each for it in value["cells"] for each in it.values() if type(each) is list]
+    named = sum(type(each) is int for it in lists for each in it)
+    if named > MOST_LISTED:
+        wrong(f"the lists of {at} have {named} classes, and may have {MOST_LISTED}")
+
+
+def cover(value: Any, at: str) -> None:
+    if type(value) is dict:
+        cells(value, at)
+    elif type(value) is list:
+        listed(value, at, node)
+    elif value not in ("line", "match"):
+        wrong(
+            f'{at} is {shown(value)}; "line", "match", a list of nodes, or an object with cells'
+            " may stand there"
+        )
+
+
 def certificate(value: Any, at: str) -> None:
     keyed(value, at, ("cover", "measure"))
-    if type(value["cover"]) is str and value["cover"] != "line":
-        wrong(f'the cover is {shown(value["cover"])}; "line" or a list of nodes may stand there')
-    if type(value["cover"]) is not str:
-        listed(value["cover"], "the cover", node)
+    cover(value["cover"], "the cover")
     listed(value["measure"], "the measure", point)
 
 

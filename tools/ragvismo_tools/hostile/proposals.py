@@ -10,7 +10,7 @@ import random
 import sys
 from fractions import Fraction
 
-from ragvismo_tools import plain_check, proposed
+from ragvismo_tools import kinds, plain_check, proposed
 from ragvismo_tools.hostile.changes import changed_proposal
 from ragvismo_tools.hostile.trial import LINE_LIMIT, expect, replies_of, run
 from ragvismo_tools.places import TOP
@@ -42,19 +42,19 @@ class SecondCheck:
     def __init__(self, book: Reply) -> None:
         self.book = book
         self.live = [each["order"] for each in book["orders"]]
-        self.kind = plain_check.Keys(
-            certificate=plain_check.CERTIFICATE,
+        self.kind = kinds.Keys(
+            certificate=plain_check.PROOF,
             liability=plain_check.FRACTIONS,
             surplus=plain_check.FRACTIONS,
-            fills=plain_check.Many(plain_check.FRACTIONS),
-            orders=plain_check.Many(plain_check.ORDER, range_most=256),
+            fills=kinds.Many(plain_check.FRACTIONS),
+            orders=kinds.Many(plain_check.ORDER, range_most=256),
         )
 
     def value(self, text: bytes) -> Reply:
         value: Reply = plain_check.value_of(text)
         for walk in (self.kind.shape, self.kind.grammar, self.kind.ranges):
             walk(value)
-        plain_check.demand(proposed.spelled(value).encode() == text, "Spelling")
+        kinds.demand(proposed.spelled(value).encode() == text, "Spelling")
         return value
 
     def fails(self, text: bytes, bound: str | None) -> str:
@@ -62,7 +62,7 @@ class SecondCheck:
         this is its bound, or where it has one and none is told."""
         try:
             value = self.value(text)
-        except plain_check.Fault:
+        except kinds.Fault:
             return "Syntax"
         if value["orders"] != self.live:
             return "Stale"
@@ -71,7 +71,7 @@ class SecondCheck:
             plain_check.judge(
                 {**self.book, **value, "orders": self.book["orders"], "mark": "bounded", **told}
             )
-        except plain_check.Fault as fault:
+        except kinds.Fault as fault:
             return "" if bound is None and str(fault) == "Bound" else str(fault)
         return ""
 

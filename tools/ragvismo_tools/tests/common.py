@@ -32,6 +32,18 @@ PROPOSAL = (
     '{"state":["1","12"],"weight":"4/7"},{"state":["0","1"],"weight":"4"}]},'
     '"fills":["1/2","1/7","5/14"],"liability":"0","orders":[1,2,3],"surplus":"3/7"}'
 )
+# A call on both underlyings that is bought against one on the first and the second, covered by
+# cells.
+CELLED = (
+    '{"batch":1,"bound":"3","certificate":{"cover":{"cells":[{"split":1},'
+    '{"leaf":[2,"1",3,"1"]},{"leaf":[]}]},"measure":[{"state":["1","0","0"],"weight":"1"}]},'
+    '"fills":["1","1","1"],"liability":"0","line":9,"mark":"bounded","market":1,'
+    '"orders":[{"account":1,"legs":[{"count":1,"form":[-10,1,1]}],"order":1,"price":3,'
+    '"quantity":1,"side":"buy"},{"account":2,"legs":[{"count":1,"form":[-10,1,0]}],"order":2,'
+    '"price":1,"quantity":1,"side":"sell"},{"account":3,"legs":[{"count":1,"form":[0,0,1]}],'
+    '"order":3,"price":1,"quantity":1,"side":"sell"}],'
+    '"reply":"cleared","run":"budget","surplus":"1","underlyings":2,"units":1,"version":3}'
+)
 TOOLS = sorted(it.name for it in (TOP / "tools").iterdir() if it.is_file() and not it.suffix)
 # What each kind of test wants besides Python: a module of it, or a program.
 WANTED = {

@@ -6,6 +6,10 @@ from __future__ import annotations
 from ragvismo_tools.tests.common import PROPOSAL
 
 
+CELLS = (
+    '{"cells":[{"split":1},{"bound":2,"minus":[],"plus":[1,"1/2"]},'
+    '{"full":[2,3],"leaf":[4,"3/8"]},{"leaf":[]}]}'
+)
 # Command lines, the word that reads them, and what is told of each: its reason and field, and some
 # words.
 EXPLAINED = (
@@ -89,6 +93,12 @@ EXPLAINED = (
     ("price,1,100,7,call,10,1", "quotes", "Syntax, field 1 (the word)", "answered by serve"),
     ("price,1,100,0,call,10,1", "serve", "Range, field 4 (the quantity)", "is below 1"),
     ("price,1,100,7,call,10,0", "serve", "Range, field 7 (a weight)", "all weights"),
+    ("try,1,100,buy,6,3,call,10,1", "serve", "", ""),
+    ("try,1,100,buy,6,3,call,10,1", "quotes", "Syntax, field 1 (the word)", "answered by serve"),
+    ("try,1,100,bid,6,3,call,10,1", "serve", "Syntax, field 4 (the side)", "buy or sell"),
+    ("try,1,100,sell,-1,3,call,10,1", "serve", "Range, field 5 (the limit price)", "is below 0"),
+    ("try,1,100,sell,6,0,call,10,1", "serve", "Range, field 6 (the quantity)", "is below 1"),
+    ("try,1,100,buy,6,3,call,10,0", "serve", "Range, field 9 (a weight)", "all weights"),
     ("open;1", "serve", "Syntax, field 1 (the word)", "only commas"),
     ("book,1", "serve", "", ""),
     ("book,1", "run", "Syntax, field 1 (the word)", "answered by serve"),
@@ -108,6 +118,8 @@ EXPLAINED = (
     ("need,2,1", "serve", "Syntax, field 3", "is over"),
     ("need,2", "run", "Syntax, field 1 (the word)", "answered by serve"),
     ("propose,1," + PROPOSAL, "serve", "", ""),
+    ("propose,1," + PROPOSAL.replace('"line"', '"match"'), "serve", "", ""),
+    ("propose,1," + PROPOSAL.replace('"line"', CELLS), "serve", "", ""),
     ("propose,1," + PROPOSAL, "guarded", "Syntax, field 1 (the word)", "answered by serve"),
     ("propose,0," + PROPOSAL, "serve", "Range, field 2 (the market)", "is below 1"),
     ("propose,x," + PROPOSAL, "serve", "Syntax, field 2 (the market)", "is no number"),
@@ -136,6 +148,12 @@ EXPLAINED = (
             ('"line"', '"tree"', "the cover is"),
             ('"line"', '[{"leaf":[{"at":1025,"by":"0"}]}]', "from 1 to 1024"),
             ('"line"', '[{"fork":1}]', "item 1 of the cover has no split"),
+            ('"line"', '{"cells":[{"leaf":[1]}]}', "its multiplier is missing"),
+            ('"line"', '{"cells":[{"leaf":[2,"1",2,"0"]}]}', "its classes rise"),
+            ('"line"', '{"cells":[{"full":[],"leaf":[]}]}', "is empty"),
+            ('"line"', '{"cells":[{"split":1025}]}', "from 1 to 1024"),
+            ('"line"', '{"cells":[{"bound":1,"plus":[]}]}', "has no minus"),
+            ('"line"', '{"leaves":[]}', "has no cells"),
             ("[1,2,3]", "[1,2,1000001]", "item 3 of the orders"),
             ("[1,2,3]", "[" + ",".join(["1"] * 257) + "]", "at most 256"),
             ('"surplus"', '"gain":1,"surplus"', "may have"),

@@ -12,7 +12,7 @@ import subprocess
 from ragvismo_tools import plain_check
 from ragvismo_tools.hostile import changes
 from ragvismo_tools.places import PROGRAM, TOP
-from ragvismo_tools.tests.common import JOURNALS, Folder, built, run
+from ragvismo_tools.tests.common import CELLED, JOURNALS, Folder, built, run
 
 
 # The butterfly, half of it filled by a proposal, with a bound.
@@ -103,6 +103,45 @@ class PlainCheck(Folder):
             self.assertEqual(found.get("reason"), reason, line)
             if os.access(PROGRAM, os.X_OK):
                 self.assertEqual(audited(line), found, line)
+
+    def test_covers_of_lines_marked_bounded(self) -> None:
+        """A match, and cells, each changed."""
+        none = BOUNDED.replace('["1/2","1/7","5/14"]', '["0","0","0"]').replace(
+            '"surplus":"3/7"', '"surplus":"0"'
+        )
+        first, second = '{"leaf":[2,"1",3,"1"]}', '{"split":1}'
+        for line, old, new, reason in (
+            (none, '"line",', '"match",', None),
+            (BOUNDED, '"line",', '"match",', "Cover"),
+            (CELLED, "", "", None),
+            (CELLED, first, '{"full":[2,3],"leaf":[]}', None),
+            (CELLED, first, '{"full":[2],"leaf":[3,"1"]}', None),
+            (CELLED, first, '{"full":[2,3],"leaf":[3,"1"]}', "Cover"),
+            (CELLED, first, '{"full":[1,2,3],"leaf":[]}', "Cover"),
+            (CELLED, first, '{"full":[],"leaf":[2,"1",3,"1"]}', "Range"),
+            (CELLED, first, '{"leaf":[2,"2",3,"1"]}', "Cover"),
+            (CELLED, first, '{"leaf":[2,"-1",3,"1"]}', "Cover"),
+            (CELLED, first, '{"leaf":[3,"1",2,"1"]}', "Range"),
+            (CELLED, first, '{"leaf":[2,"1",3]}', "Shape"),
+            (CELLED, first, '{"leaf":[2,"1",3,"2/2"]}', "Number"),
+            (CELLED, first, '{"leaf":[2,"1",3,"1"],"more":1}', "Shape"),
+            (CELLED, first, '{"leaf":[2,"1",4,"1"]}', "BatchShape"),
+            (CELLED, first, '{"bound":2,"minus":[],"plus":[1,"1"]},' + first, None),
+            (CELLED, first, '{"bound":2,"minus":[],"plus":[3,"1"]},' + first, "Cover"),
+            (CELLED, first, '{"bound":1,"minus":[],"plus":[]},' + first, "Cover"),
+            (CELLED, first, '{"bound":2,"plus":[]},' + first, "Shape"),
+            (CELLED, second, '{"split":2}', "Cover"),
+            (CELLED, second, '{"split":4}', "BatchShape"),
+            (CELLED, second, '{"split":1025}', "Range"),
+            (CELLED, second + ",", "", "BatchShape"),
+            (CELLED, first + ",", "", "BatchShape"),
+            (CELLED, '"bound":"3"', '"bound":"2"', "Bound"),
+        ):
+            changed = line.replace(old, new, 1)
+            found = plain_check.report(changed.encode(), "audit")
+            self.assertEqual(found.get("reason"), reason, changed)
+            if os.access(PROGRAM, os.X_OK):
+                self.assertEqual(audited(changed), found, changed)
 
     @built
     def test_changed_values_are_judged_as_by_the_program(self) -> None:

@@ -3,10 +3,11 @@
 from __future__ import annotations
 
 import json
+import re
 import unittest
 
 from ragvismo_tools.places import TOP
-from ragvismo_tools.tests.common import EXAMPLES, JOURNALS, wants
+from ragvismo_tools.tests.common import CELLED, EXAMPLES, JOURNALS, wants
 
 
 @wants("python3-jsonschema")
@@ -89,6 +90,24 @@ class Schema(unittest.TestCase):
             line = next(it for it in text.splitlines() if old in it)
             self.assertTrue(self.parts[word](json.loads(line)), line)
             self.assertFalse(self.parts[word](json.loads(line.replace(old, new, 1))), new)
+
+    def test_covers_of_lines_marked_bounded(self) -> None:
+        reads = self.parts["serve"]
+        self.assertTrue(reads(json.loads(CELLED)))
+        for old, new, is_read in (
+            ('{"leaf":[]}', '{"full":[2],"leaf":[1,"1/2"]}', True),
+            ('{"leaf":[]}', '{"full":[],"leaf":[]}', False),
+            ('{"leaf":[]}', '{"leaf":[1,"2/4/8"]}', False),
+            ('{"split":1}', '{"split":0}', False),
+            ('{"split":1}', '{"bound":1,"minus":[2,"1"],"plus":[]}', True),
+            ('{"split":1}', '{"bound":1,"plus":[]}', False),
+            ('{"cells"', '{"more":1,"cells"', False),
+            ('"mark":"bounded"', '"mark":"optimal"', False),
+        ):
+            self.assertEqual(reads(json.loads(CELLED.replace(old, new, 1))), is_read, new)
+        cover = re.findall(r'{"cells":.*?}]}', CELLED)[0]
+        for word, is_read in (('"match"', True), ('"line"', True), ('"cells"', False)):
+            self.assertEqual(reads(json.loads(CELLED.replace(cover, word))), is_read, word)
 
     def test_changed_lines_are_refused(self) -> None:
         text = next(
