@@ -30,8 +30,11 @@ class Fault(enum.StrEnum):
 
 
 def fault_of(session: bytes, number: bytes, body: bytes) -> Fault | None:
-    """Why a session, a number and a body are no line of the program; None where they are one."""
+    """Why a session, a number and a body are no message; None where they are one. A line that asks
+    is none, so that no question stands in the log."""
     if b"\n" in body or b"\n" in session or b"," in session or b"\n" in number or b"," in number:
+        return Fault.FORM
+    if session.startswith(b"?"):
         return Fault.FORM
     return Fault.LONG if len(session) + len(number) + len(body) + 2 > LONGEST_LINE else None
 

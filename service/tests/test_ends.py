@@ -31,6 +31,7 @@ class Ends(Service):
                 *("session", 7, "number", 1, "body", "open,5", "body", "open,6"),
             ): "Fields",
             self.append(session=7, number=1, body="open,1\nopen,2"): "Form",
+            self.append(session="?7", number="balance", body="0"): "Form",
             self.append(session="7,1", number=1, body="x"): "Form",
             self.append(session=7, number=1, body=b"x" * (1 << 24)): "Long",
         }
@@ -46,7 +47,7 @@ class Ends(Service):
             )
         kinds = [json.loads(answer) for answer in published.values()]
         self.assertEqual((kinds[-2]["reason"], kinds[-1]["of"]["line"]), ("Malformed", 2))
-        self.assertRegex(self.tool("verify").stdout, "^9 answers hold, to ")
+        self.assertRegex(self.tool("verify").stdout, "^10 answers hold, to ")
         self.assertEqual(self.tool("journal", self.folder / "journal").returncode, 0)
         [messages] = (self.folder / "journal").glob("*.messages")
         self.assertLess(messages.stat().st_size, 1000)
