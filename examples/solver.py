@@ -4,8 +4,9 @@ in, propose lines out.
 
     exchange serve < day.commands | examples/solver.py
 
-It fills single options alone and leaves bundles. docs/SOLVERS.md says why its numbers hold though
-those of HiGHS do not.
+It fills single options alone and leaves bundles. To a book on several underlyings, or without
+orders, it answers an empty line. docs/SOLVERS.md says why its numbers hold though those of HiGHS do
+not.
 """
 
 from __future__ import annotations
@@ -87,6 +88,10 @@ def proposal(book: Object) -> Object:
 
 for line in sys.stdin:
     reply = json.loads(line)
-    if reply["reply"] == "book" and reply["underlyings"] == 1 and reply["orders"]:
+    if reply["reply"] != "book":
+        continue
+    if reply["underlyings"] == 1 and reply["orders"]:
         text = json.dumps(proposal(reply), separators=(",", ":"))
         print(f"propose,{reply['market']},{text}", flush=True)
+    else:
+        print(flush=True)

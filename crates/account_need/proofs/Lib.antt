@@ -7,7 +7,9 @@ pub mod Rounding
 pub mod WorkedNeeds
 pub mod Narrow
 pub mod Greatest
+pub mod PlainBuys
 pub mod Convex
+pub mod Turning
 pub mod Reached
 pub mod OnLine
 pub mod LineBounds

@@ -59,7 +59,7 @@ middle_is a b p q p' q' x y e e' =
 abbrev pub AgreesAt : ℕ → ℕ → ℕ → ℕ → List ℤ → Type 0
 AgreesAt t s t' s' v = Agree (at (strike_entry v) (weight_entry v) t s) (at (strike_entry v) (weight_entry v) t' s')
 
-each_then : {A : Type 0} (P Q : A → Type 0) (xs : List A) → ((x : A) → P x → Q x) → Each P xs → Each Q xs
+pub each_then : {A : Type 0} (P Q : A → Type 0) (xs : List A) → ((x : A) → P x → Q x) → Each P xs → Each Q xs
 each_then P Q [] f h = tt
 each_then P Q (x ∷ xs) f h = (f x h.0, each_then P Q xs f h.1)
 

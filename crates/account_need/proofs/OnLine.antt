@@ -14,6 +14,11 @@ value_small a b t s ha hb ht hs = (
   omega (arith, unsigned_abs-mul b (pos s), mul-le-mul_left (unsigned_abs b) hs, mul-le-mul_right 1000000000 hb),
 )
 
+-- a sum of so many options
+pub amount_small : (s : ℤ) (p : ℕ) → unsigned_abs s ≤ 72057594037927936000000 → p ≤ 2000000000000 → unsigned_abs (s *ℤ pos p) ≤ 144115188075855872000000000000000000
+amount_small s p hs hp =
+    omega (arith, unsigned_abs-mul s (pos p), mul-le-mul_left (unsigned_abs s) hp, mul-le-mul_right 2000000000000 hs)
+
 -- a count times an amount goes to those above 0, or to the others
 pub one_above : (above below h amount : ℕ) (c R B : ℤ) → amount ≡ unsigned_abs c * h → pos 0 <ℤ c → B ≡ (pos above -ℤ pos below) +ℤ ((c *ℤ pos h) +ℤ R) → B ≡ (pos (above + amount) -ℤ pos below) +ℤ R
 one_above above below h amount (pos n) R B is some e = omega (arith, ints, e, is)

@@ -1,44 +1,30 @@
 -- What live orders may lose, by their kinds: the sells of one option, the buys that lose no more
 -- than their premiums, and those that have runs of their own.
 use Rattle.std.proofs.Common.{◌≡◌, ℕ, ◌+◌, ◌*◌, ◌≤◌, Bool, true, false, not, ◌&&◌, cond, List, [], ◌∷◌, filter, Ok, Err, if◌then◌else◌, arith, ℤ, pos, neg_ℤ, ◌+ℤ◌, ◌*ℤ◌, ◌≤ℤ◌, unsigned_abs, refl, ap}
-use Rattle.std.specs.Prelude.{int_lt, nat_le}
-use Rattle.std.proofs.lemmas.Bool.{and_parts}
+use Rattle.std.specs.Prelude.{nat_le}
 use Rattle.std.proofs.lemmas.Int.{ints}
 use native.Mathlib.Nat.{mul-le-mul_left}
 use Rattle.arithmetic.specs.Sums.{positive_part}
 use Rattle.arithmetic.proofs.Integers.{*ℤ_cancel_le, *ℤ_mono}
-use Rattle.arithmetic.proofs.Parts.{part_below, positive_part_above, positive_part_least}
+use Rattle.arithmetic.proofs.Parts.{positive_part_above, positive_part_least}
 use Rattle.arithmetic.proofs.Products.{products}
 use Rattle.arithmetic.proofs.Sums.{All-head}
-use Rattle.arithmetic.proofs.Tests.{int_lt-yes}
 use Rattle.exact_num.specs.Fraction.{whole}
 use Rattle.exact_num.specs.CommonDenominator.{common_denominator}
 use Rattle.frac.specs.Range.{limit as largest}
 use Rattle.form.specs.declared.orders.Order.{Order}
 use Rattle.form.specs.declared.orders.Side.{Side}
 use Rattle.form.specs.declared.orders.Side.TheVariants.{Buy, Sell}
-use Rattle.form.specs.Payoff.{BundleLeg, bundle_legs, bundle_payoff, payoff, scale_of}
+use Rattle.form.specs.Payoff.{bundle_legs, bundle_payoff, scale_of}
 use Rattle.portfolio_margin.specs.Laws.{MayBeAsked}
 use Rattle.portfolio_margin.specs.Owed.{fill_of, fills_of, owed_by, owed_over}
 use Rattle.portfolio_margin.proofs.Owing.{Divides, common_is, fills_defined}
 use Rattle.account_need.specs.declared.need.NoNeed.TheVariants.{Sum}
 use Rattle.account_need.specs.Exposure.{IsInBox, cost_by, loss_at, losses_at}
-use Rattle.account_need.specs.Several.{Bounded, and_then, has_plain_legs, if_buy_then, is_by_itself, is_plain_buy, is_single_sell, less_price, own_loss, owing, owing_one, run_over, tops, with_one, with_own, within}
+use Rattle.account_need.specs.Several.{Bounded, and_then, is_by_itself, is_plain_buy, is_single_sell, less_price, own_loss, owing, owing_one, run_over, tops, with_one, with_own, within}
+use Rattle.account_need.proofs.PlainBuys.{plain_loses}
 use Rattle.account_need.proofs.OwingAmounts.{tops_owe, whole_amount}
 use Rattle.account_need.proofs.RunBounds.{run_covers, value_in}
-
--- ---- buys that lose no more than their premiums
-plain_pays : (legs : List BundleLeg) (z : List ℕ) → has_plain_legs legs ≡ true → pos 0 ≤ℤ bundle_payoff legs z
-plain_pays [] z e = omega (arith, ints)
-plain_pays (leg ∷ legs) z e =
-    let parts = and_parts (int_lt (pos 0) leg.count) (has_plain_legs legs) e in
-    let above = int_lt-yes (pos 0) leg.count parts.0 in
-    let some : pos 0 ≤ℤ leg.count = omega (arith, ints, above) in
-    omega (arith, ints, *ℤ_mono (payoff leg.option z) (pos 0) leg.count some, plain_pays legs z parts.1)
-
-plain_loses : (side : Side) (legs : List BundleLeg) (paid : ℕ) (z : List ℕ) → if_buy_then side (has_plain_legs legs) ≡ true → positive_part (cost_by side paid (bundle_payoff legs z)) ≡ 0
-plain_loses Sell legs paid z e = absurd (cc)
-plain_loses Buy legs paid z e = part_below (neg_ℤ (bundle_payoff legs z)) (omega (arith, ints, plain_pays legs z e))
 
 -- ---- by kinds
 pub by_kinds : (z : List ℕ) (live : List Order) → losses_at z live ≤ losses_at z (filter is_single_sell live) + losses_at z (filter is_by_itself live)

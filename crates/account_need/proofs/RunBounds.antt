@@ -12,7 +12,7 @@ use Rattle.exact_num.specs.CommonDenominator.{amount_over, common_denominator}
 use Rattle.frac.specs.Range.{limit as largest}
 use Rattle.form.specs.Payoff.{IsState}
 use Rattle.settlement.specs.declared.position.Position.{Position}
-use Rattle.table_run.specs.Ending.{Ending, done, no_unit_left, unbounded, wide_at}
+use Rattle.simplex_run.specs.Ending.{Ending, done, no_unit_left, unbounded, wide_at}
 use Rattle.portfolio_margin.specs.Laws.{MayBeAsked}
 use Rattle.portfolio_margin.specs.Need.{ceil_of}
 use Rattle.portfolio_margin.specs.Owed.{Covers, IsDenominator, fills_of, owed_over}

@@ -1,20 +1,21 @@
 -- What the code holds on one underlying: prices, sums and orders, and the greatest exposure as it
 -- goes from bend to bend.
-use Rattle.std.specs.Prelude.{◌≡◌, ◌≤◌, ◌*◌, ℕ, List, [], ◌∷◌, length, map, ℤ, Option, Some, None, unsigned_abs, if◌then◌else◌}
+use Rattle.std.specs.Prelude.{◌≡◌, ◌≤◌, ◌*◌, ◌++◌, ℕ, Bool, int_lt, List, [], ◌∷◌, filter, length, map, ℤ, pos, Option, Some, None, unsigned_abs, if◌then◌else◌}
 use Rattle.std.specs.Int.{int_max}
-use Rattle.std.specs.List.{All}
+use Rattle.std.specs.List.{All, flat_map}
 use Rattle.form.specs.declared.bundles.Bundle.{Bundle}
 use Rattle.form.specs.declared.legs.Leg.{Leg}
 use Rattle.form.specs.declared.orders.Order.{Order}
 use Rattle.form.specs.declared.limits.TheConstants.{MAX_ORDERS}
 use Rattle.form.specs.Limits.{IsListed, IsOrderWithin}
-use Rattle.form.specs.Payoff.{IsOnCount, legs_in, option_of, scale_of}
+use Rattle.form.specs.Payoff.{IsOnCount, bundle_legs, legs_in, option_of, scale_of}
 use Rattle.settlement.specs.declared.position.Position.{Position}
 use Rattle.portfolio_margin.specs.Need.{ceil_of}
 use Rattle.account_need.specs.declared.price.Price.{Price}
 use Rattle.account_need.specs.declared.sums.FormSum.{FormSum}
-use Rattle.account_need.specs.Rounded.{OptionSum, Summed, rounded_exposure, unit}
+use Rattle.account_need.specs.Rounded.{OptionSum, Summed, option_in, options_of, rounded_exposure, unit}
 use Rattle.account_need.specs.Line.{bend_of, bends}
+use Rattle.account_need.specs.Several.{is_by_itself}
 
 -- ---- what the code is given
 -- a bundle of options within the limits, each with so many entries, and such an order
@@ -68,6 +69,21 @@ with_bend p best v = if bends v then int_max best (bound_at p (bend_of v)) else 
 abbrev pub with_bends : Summed → ℤ → List (List ℤ) → ℤ
 with_bends p best [] = best
 with_bends p best (v ∷ options) = with_bends p (with_bend p best v) options
+
+-- ---- the options where the exposure may be greatest: where it bends down
+-- of a sum above 0 it bends up alone
+abbrev pub is_due : OptionSum → Bool
+is_due s = int_lt s.sum (pos 0)
+
+abbrev pub turning_sums : List OptionSum → List (List ℤ)
+turning_sums sums = map option_in (filter is_due sums)
+
+-- and so it does of a live sell of one option; a buy of counts above 0 loses nothing
+abbrev pub turning_live : List Order → List (List ℤ)
+turning_live live = flat_map (λ (o : Order). options_of (bundle_legs o.bundle)) (filter is_by_itself live)
+
+abbrev pub turning_in : Summed → List (List ℤ)
+turning_in p = turning_sums p.sums ++ turning_live p.live
 
 -- so many of them as a market has at most
 pub record AreExposed (sums : List FormSum) (live : List Order) : Type 0 where

@@ -17,7 +17,7 @@ use Rattle.form.specs.Payoff.{BundleLeg, bundle_legs}
 use Rattle.form.specs.Vector.{call_of}
 use Rattle.limits.specs.declared.TheConstants.{MAX_SETTLEMENT_PRICE}
 use Rattle.settlement.specs.declared.position.Position.{Position}
-use Rattle.table_run.specs.Ending.{Ending, done, unbounded, wide_at, no_unit_left}
+use Rattle.simplex_run.specs.Ending.{Ending, done, unbounded, wide_at, no_unit_left}
 use Rattle.portfolio_margin.specs.Need.{ceil_of}
 use Rattle.portfolio_margin.specs.Run.{Margin, asked_for, least, endless, margin_run}
 use Rattle.account_need.specs.declared.need.NoNeed.{NoNeed}

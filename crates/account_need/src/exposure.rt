@@ -1,5 +1,5 @@
 //! The exposure at a price.
-ghost use Rattle.std.specs.Prelude.{◌≡◌, ◌≤◌, ◌+◌, ◌*◌, ◌^◌, ℕ, length, map, pos, ◌-ℤ◌, unsigned_abs};
+ghost use Rattle.std.specs.Prelude.{◌≡◌, ◌≤◌, ◌+◌, ◌*◌, ◌^◌, ◌*ℤ◌, ℕ, length, map, pos, unsigned_abs};
 ghost use Rattle.std.specs.List.{All};
 ghost use Rattle.form.specs.declared.limits.TheConstants.{MAX_ORDERS};
 ghost use Rattle.account_need.specs.Prices.{IsLineOrder, IsLineSum, bound_at, in_code, option_sum, price_vector};
@@ -14,41 +14,28 @@ use crate::sums::FormSum;
 use crate::ticks::ceil_of;
 use form::Order;
 
-// What is owed of the sums above 0, and what is to come of those below, in 2^-32 of a tick.
-#[derive(Clone, Copy)]
-struct Owing {
-    above: u128,
-    below: u128,
-}
-
-fn owed(sums: &[FormSum], at: &Price) -> Owing
-    requires within { All IsLineSum sums.now }
-    requires few { length sums.now ≤ MAX_ORDERS }
-    ensures owed { owed_of (price_vector at.now) (map option_sum sums.now)
-        ≡ pos result.above -ℤ pos result.below }
-    ensures small { result.above + result.below
-        ≤ length sums.now * 144115188075855872000000000000000000 }
-{
-    let (mut above, mut below): (u128, u128) = (0, 0);
-    for item in sums {
-        let amount = amount_of(item, at);
-        if item.sum > 0 {
-            above += amount;
-        } else {
-            below += amount;
-        }
-    }
-    Owing { above, below }
-}
-
-// What one sum comes to, whatever its sign.
-fn amount_of(item: &FormSum, at: &Price) -> u128
+// What is owed of one sum, in 2^-32 of a tick.
+fn amount_of(item: &FormSum, at: &Price) -> i128
     requires { IsLineSum item.now }
     ensures amount { result
-        ≡ unsigned_abs item.now.sum * payoff (option_of item.now.form) (price_vector at.now) }
-    ensures small { result ≤ 144115188075855872000000000000000000 }
+        ≡ item.now.sum *ℤ pos (payoff (option_of item.now.form) (price_vector at.now)) }
+    ensures small { unsigned_abs result ≤ 144115188075855872000000000000000000 }
 {
-    item.sum.unsigned_abs() * u128::from(pays(&item.form, at))
+    item.sum * i128::from(pays(&item.form, at))
+}
+
+// What is owed of all of them.
+fn owed(sums: &[FormSum], at: &Price) -> i128
+    requires within { All IsLineSum sums.now }
+    requires few { length sums.now ≤ MAX_ORDERS }
+    ensures owed { result ≡ owed_of (price_vector at.now) (map option_sum sums.now) }
+    ensures small { unsigned_abs result ≤ length sums.now * 144115188075855872000000000000000000 }
+{
+    let mut total: i128 = 0;
+    for item in sums {
+        total += amount_of(item, at);
+    }
+    total
 }
 
 // The exposure, in 2^-32 of a tick.
@@ -61,9 +48,8 @@ pub(crate) fn exposure(sums: &[FormSum], live: &[Order], at: &Price) -> i128
         ≡ rounded_exposure (in_code sums.now positions live.now) (price_vector at.now) }
     ensures small { unsigned_abs result ≤ 2 ^ 126 }
 {
-    let owed = owed(sums, at);
-    let above = owed.above + losses(live, at) * 4_294_967_296;
-    above as i128 - owed.below as i128
+    let lost = losses(live, at) * 4_294_967_296;
+    owed(sums, at) + lost as i128
 }
 
 // Rounded up to whole ticks, at a price over t.

@@ -1,18 +1,19 @@
 //! The need of a market on one underlying.
 ghost use Rattle.std.specs.Prelude.{◌≡◌, ◌≤◌, ◌+◌, ◌^◌, ℕ, length, map, unsigned_abs, ◌*◌, pos, ◌+ℤ◌};
 ghost use Rattle.arithmetic.specs.Sums.{positive_part};
-ghost use Rattle.std.specs.List.{All, flat_map};
+ghost use Rattle.std.specs.List.{All};
 ghost use Rattle.frac.specs.Range.{limit as largest};
 ghost use Rattle.form.specs.Limits.{IsListed};
 ghost use Rattle.form.specs.Payoff.{bundle_legs, option_of};
 ghost use Rattle.form.specs.declared.limits.TheConstants.{MAX_ORDERS};
 ghost use Rattle.account_need.specs.Line.{line_bound, line_need};
-ghost use Rattle.account_need.specs.Prices.{AreExposed, IsLineBundle, in_code, option_sum, with_bend, with_bends};
+ghost use Rattle.account_need.specs.Prices.{AreExposed, IsLineBundle, in_code, option_sum, turning_live, turning_sums, with_bend, with_bends};
 ghost use Rattle.account_need.specs.Exposure.{IsEnough, Portfolio};
-ghost use Rattle.account_need.specs.Rounded.{option_in, options_of, summed};
+ghost use Rattle.account_need.specs.Rounded.{options_of, summed};
 
 use crate::costs::reserve;
 use crate::exposure::bound;
+use crate::kinds::is_by_itself;
 use crate::options::bend;
 use crate::price::Price;
 use crate::sums::FormSum;
@@ -50,33 +51,38 @@ fn with_bundle(sums: &[FormSum], live: &[Order], bundle: &Bundle, first: i128) -
     best
 }
 
-// That where the sums bend.
+// That where the sums below 0 bend. What is owed of the others bends up alone, so that it is not
+// greatest there.
 fn with_sums(sums: &[FormSum], live: &[Order], first: i128) -> i128
     requires exposed { AreExposed sums.now live.now }
     requires first { unsigned_abs first ≤ 2 ^ 126 }
     ensures bound { (positions : ℕ) → result
-        ≡ with_bends (in_code sums.now positions live.now) first (map option_in (map option_sum sums.now)) }
+        ≡ with_bends (in_code sums.now positions live.now) first (turning_sums (map option_sum sums.now)) }
     ensures small { unsigned_abs result ≤ 2 ^ 126 }
 {
     let mut best = first;
     for item in sums {
-        best = with_bend(sums, live, &item.form, best);
+        if item.sum < 0 {
+            best = with_bend(sums, live, &item.form, best);
+        }
     }
     best
 }
 
-// That where the live orders bend.
+// That where the live orders bend, but for the sells of one option, which bend up alone, and the
+// buys that lose nothing.
 fn with_live(sums: &[FormSum], live: &[Order], first: i128) -> i128
     requires exposed { AreExposed sums.now live.now }
     requires first { unsigned_abs first ≤ 2 ^ 126 }
     ensures bound { (positions : ℕ) → result
-        ≡ with_bends (in_code sums.now positions live.now) first
-        (flat_map (λ o. options_of (bundle_legs o.bundle)) live.now) }
+        ≡ with_bends (in_code sums.now positions live.now) first (turning_live live.now) }
     ensures small { unsigned_abs result ≤ 2 ^ 126 }
 {
     let mut best = first;
     for order in live {
-        best = with_bundle(sums, live, &order.bundle, best);
+        if is_by_itself(order) {
+            best = with_bundle(sums, live, &order.bundle, best);
+        }
     }
     best
 }

@@ -10,7 +10,7 @@ ghost use Rattle.portfolio_margin.specs.Answers.{IsMarginWith};
 ghost use Rattle.portfolio_margin.specs.Need.{ceil_of};
 ghost use Rattle.portfolio_margin.specs.Run.{Margin};
 ghost use Rattle.settlement.specs.Positions.{IsHeldPosition};
-ghost use Rattle.table_run.specs.Ending.{Ending};
+ghost use Rattle.simplex_run.specs.Ending.{Ending};
 ghost use Rattle.account_need.specs.Given.{IsFound};
 ghost use Rattle.account_need.specs.Prices.{IsOrderOn};
 ghost use Rattle.account_need.specs.Several.{and_then, bounded_by, is_by_itself, less_price, run_over, with_one, with_own, within};

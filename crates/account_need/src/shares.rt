@@ -78,5 +78,9 @@ pub(crate) fn part_owed(position: &Position, form: &Form) -> i128
     ensures part { result ≡ part_owed (option_of form.now) position.now }
     ensures small { unsigned_abs result ≤ 4294967296000000 }
 {
-    rounded_up(&position.fill, owed_count(position, form))
+    let count = owed_count(position, form);
+    if count == 0 {
+        return 0;
+    }
+    rounded_up(&position.fill, count)
 }

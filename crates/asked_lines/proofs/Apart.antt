@@ -1,11 +1,11 @@
 -- The lines that ask nothing are told as an input of their own.
 use Rattle.std.proofs.Common.{◌≡◌, ℕ, ◌+◌, Bool, true, false, List, [], ◌∷◌, refl, sym, ap, ◌∙◌, subst, drop}
 use Rattle.command_text.specs.Lines.{mark_size}
-use Rattle.live_lines.specs.Output.{lines_output, output_of}
+use Rattle.live_lines.specs.Output.{output_of}
 use Rattle.live_lines.proofs.Places.{output_is, without_mark}
 use Rattle.asked_lines.specs.Apart.{OthersAreToldAlone, TellBeside, bare, others_alone}
 use Rattle.asked_lines.specs.Asked.{asked_step, asking_first}
-use Rattle.asked_lines.specs.Laws.{IsUnmarked, lines_of, without_questions}
+use Rattle.asked_lines.specs.Laws.{IsUnmarked, lines_of}
 use Rattle.asked_lines.proofs.Bytes.{asking_changes_nothing}
 
 -- where no mark is skipped none is missed

@@ -21,6 +21,7 @@ use Rattle.proposal_check.specs.declared.covers.ProposalCover.TheVariants.{Check
 use Rattle.reply_print.specs.OutcomePieces.{state_entries}
 use Rattle.proposals.specs.Judged.{IsBare, IsBareCover, ProposesNothing, zero_prices}
 use Rattle.reply_print.specs.Within.{IsBatchWithin, IsCoverWithin, IsNodeWithin, IsOrderNumber, IsOrderWithin, IsPlace, IsPointWithin, IsSmall, leaves_of}
+use Rattle.proposal_text.specs.Counts.{IsShortCover}
 use Rattle.proposal_text.specs.Within.{IsProposalCoverWithin, IsProposalWithin, IsSubmissionWithin}
 use Rattle.book_proposals.specs.Answers.{submission_for}
 
@@ -65,14 +66,20 @@ bare_within n (Tree tree) bare = (
   ap leaves_of bare.1 ∙ sym (ap length bare.2),
 )
 
+bare_short : (n : ℕ) (cover : Cover) → IsBareCover n cover → IsShortCover cover
+bare_short n Line bare = tt
+bare_short n (Tree tree) bare = omega (arith, ap length bare.1)
+
 covered_within : (n : ℕ) (cover : ProposalCover) → IsBare n cover → IsProposalCoverWithin cover
-covered_within n (Checked cover) bare = bare_within n cover bare
+covered_within n (Checked cover) bare = (bare_within n cover bare, bare_short n cover bare)
 covered_within n Match bare = absurd bare
 covered_within n (Cells nodes) bare = absurd bare
 
 pub nothing_within : (batch : Batch) (proposal : Proposal) → ProposesNothing batch proposal → IsProposalWithin proposal
 nothing_within batch proposal is =
-    (covered_within batch.underlyings proposal.cover is.cover, zero_prices_within batch.underlyings proposal.measure.points is.measure)
+    let points = proposal.measure.points in
+    let few : length points ≤ 1024 = omega (arith, length-map points point_of, ap length is.measure) in
+    (covered_within batch.underlyings proposal.cover is.cover, (few, zero_prices_within batch.underlyings points is.measure))
 
 -- ---- what is handed in
 numbers_within : (orders : List Order) → AllByRecursion IsOrderWithin orders → AllByRecursion IsOrderNumber (map (λ (order : Order). order.id) orders)

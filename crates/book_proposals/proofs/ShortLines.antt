@@ -31,7 +31,7 @@ use Rattle.reply_print.specs.Within.{IsBatchWithin, IsMarket, IsOrderNumber, IsP
 use Rattle.reply_print.proofs.Ascii.{piece_has_no_feed}
 use Rattle.proposal_text.specs.declared.submissions.Submission.{Submission}
 use Rattle.proposal_text.specs.Pieces.{submission_piece, submission_text}
-use Rattle.proposal_text.specs.Within.{IsSubmissionWithin}
+use Rattle.proposal_text.specs.Within.{IsMeasureWithin, IsSubmissionWithin}
 use Rattle.proposal_text.proofs.WrittenProposals.{submission_written}
 use Rattle.book_proposals.specs.Answers.{proposing_text, submission_for}
 use Rattle.book_proposals.proofs.ProposalsWithin.{nothing_within, submission_within}
@@ -133,10 +133,11 @@ module _ (batch : Batch) (proposal : Proposal) (ranges : IsBatchWithin batch) (n
       let points = proposal.measure.points in
       let one : length points ≡ 1 = omega (arith, length-map points point_of, ap length nothing.measure) in
       let measured = field (codes "measure") (each point_piece points) no_fields in
+      let within : IsMeasureWithin proposal.measure = (nothing_within batch proposal nothing).1 in
       omega (
         arith,
         covered_size batch.underlyings proposal.cover nothing.cover,
-        points_size points one (nothing_within batch proposal nothing).1,
+        points_size points one within.1,
         fields_size false (codes "cover") (proposal_cover_piece proposal.cover) measured,
         fields_size true (codes "measure") (each point_piece points) no_fields,
       )

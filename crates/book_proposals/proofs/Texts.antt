@@ -1,7 +1,7 @@
 -- The texts of lines and their answers, in their order.
 use Rattle.std.proofs.Common.{◌≡◌, ℕ, suc, ◌+◌, List, [], ◌∷◌, ◌++◌, Bool, true, false, ◌==◌, length, if◌then◌else◌, refl, sym, ap, subst, ◌∙◌, arith, append_assoc, Option}
 use Rattle.std.proofs.lemmas.Bool.Decides.{nat_tests}
-use Rattle.port_io.specs.Reads.{LastRead}
+use Rattle.byte_streams.specs.Reads.{LastRead}
 use Rattle.live_lines.specs.Answering.{AnswersLine, AnswersLines}
 use Rattle.live_lines.specs.Open.{line_text}
 use Rattle.live_lines.specs.Serving.{IsServedInTime, Known, Wrote, WroteFirst, WroteSome}

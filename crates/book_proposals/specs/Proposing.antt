@@ -2,7 +2,7 @@
 -- where they are told.
 use Rattle.std.specs.Prelude.{◌≡◌, ℕ, List, ◌++◌}
 use Rattle.std.specs.Io.KnownBytes.{Appends}
-use Rattle.port_io.specs.Writes.{AppendsFront}
+use Rattle.byte_streams.specs.Writes.{AppendsFront}
 use Rattle.live_lines.specs.Serving.{Known}
 use Rattle.book_proposals.specs.LiveAnswers.{AreAnswers, IsWrittenFor, texts_in}
 

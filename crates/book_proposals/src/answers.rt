@@ -4,18 +4,19 @@ ghost use Rattle.form.specs.declared.orders.Order.{Order};
 ghost use Rattle.form.specs.Limits.{IsWithinLimits};
 ghost use Rattle.limits.specs.declared.TheConstants.{MAX_BYTES};
 ghost use Rattle.reply_print.specs.Within.{IsBatchWithin};
-ghost use Rattle.proposal_text.specs.Within.{IsProposalWithin};
+ghost use Rattle.proposals.specs.Judged.{IsJudgedBound};
 ghost use Rattle.book_proposals.specs.Answers.{IsAnswerTo, IsProposed, proposing_text, submission_for};
 
 use crate::books::book_of;
+use crate::written::is_written;
 use form::{Batch, Order};
 use itoa::Buffer;
 use limits::MAX_BYTES;
+use match_proposals::at_least_match;
 use near_solver::propose;
-use proposal_check::{Proposal, ProposalCover};
+use proposal_check::Proposal;
 use proposal_text::{Submission, print_submission};
 use proposals::{OrderNumbers, nothing};
-use quick_reader::ranges::is_certificate_within;
 use std::alloc::{AllocError, Global};
 
 /// What is written for a line without its line feed: where it is the print of a reply that tells
@@ -32,7 +33,7 @@ pub fn propose_for(alloc: Global, line: &[u8]) -> Result<Vec<u8>, AllocError>
 }
 
 // The line of a proposal for the live orders of a market: of what the solver proposes, where an
-// exchange reads its line, and else of nothing.
+// exchange reads its line; else of the match of each bundle; and else of nothing.
 fn proposal_for(alloc: Global, market: u32, batch: &Batch) -> Result<Vec<u8>, AllocError>
     requires within { IsWithinLimits batch.now }
     requires ranges { IsBatchWithin batch.now }
@@ -44,14 +45,41 @@ fn proposal_for(alloc: Global, market: u32, batch: &Batch) -> Result<Vec<u8>, Al
     }
 }
 
-// The line of what the solver proposes, where its numbers are within their ranges and it is short.
+// The line of what the solver proposes, or else of the match.
 fn found_line(alloc: Global, market: u32, batch: &Batch) -> Result<Option<Vec<u8>>, AllocError>
     requires within { IsWithinLimits batch.now }
     requires ranges { IsBatchWithin batch.now }
     ensures { IfOk result (λ line. IfSome line (λ text. IsProposed market batch.now text.items)) }
 {
-    let proposal = propose(alloc, batch)?;
-    if !is_written(&proposal) {
+    match written_line(alloc, market, batch, propose(alloc, batch)?)? {
+        Some(line) => Ok(Some(line)),
+        None => matched_line(alloc, market, batch),
+    }
+}
+
+// The line of the match of each bundle, where that earns something, and else of nothing.
+fn matched_line(alloc: Global, market: u32, batch: &Batch) -> Result<Option<Vec<u8>>, AllocError>
+    requires within { IsWithinLimits batch.now }
+    requires ranges { IsBatchWithin batch.now }
+    ensures { IfOk result (λ line. IfSome line (λ text. IsProposed market batch.now text.items)) }
+{
+    let matched = at_least_match(alloc, batch, nothing(alloc, batch)?)?;
+    written_line(alloc, market, batch, matched)
+}
+
+// The line of a proposal, where its numbers are within their ranges and it is short.
+fn written_line(
+    alloc: Global,
+    market: u32,
+    batch: &Batch,
+    proposal: Proposal,
+) -> Result<Option<Vec<u8>>, AllocError>
+    requires within { IsWithinLimits batch.now }
+    requires ranges { IsBatchWithin batch.now }
+    requires judged { IsJudgedBound batch.now proposal }
+    ensures { IfOk result (λ line. IfSome line (λ text. IsProposed market batch.now text.items)) }
+{
+    if !is_written(batch, &proposal) {
         return Ok(None);
     }
     let line = proposing_line(alloc, market, batch, proposal)?;
@@ -59,17 +87,6 @@ fn found_line(alloc: Global, market: u32, batch: &Batch) -> Result<Option<Vec<u8
         Ok(Some(line))
     } else {
         Ok(None)
-    }
-}
-
-// Yes only where a line has such a cover, and cover and measure are within their ranges.
-fn is_written(proposal: &Proposal) -> bool
-    ensures { IsTrue result → IsProposalWithin proposal.now }
-{
-    match &proposal.cover {
-        ProposalCover::Checked(cover) => is_certificate_within(cover, &proposal.measure),
-        ProposalCover::Match => false,
-        ProposalCover::Cells(_) => false,
     }
 }
 

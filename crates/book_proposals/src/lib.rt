@@ -7,6 +7,7 @@ mod batch_limits;
 mod books;
 pub mod laws;
 mod live;
+mod written;
 
 pub use answers::propose_for;
 pub use live::propose_live;

@@ -5,8 +5,8 @@ ghost use Rattle.book_proposals.specs.LiveAnswers.{proposes};
 ghost use Rattle.book_proposals.specs.Proposing.{WroteFor, WroteFrontFor, WroteFrontOf};
 
 use crate::answers::propose_for;
+use byte_streams::{Sink, Source, Stop};
 use live_lines::LineAnswers;
-use port_io::{Sink, Source, Stop};
 use std::alloc::{AllocError, Global};
 
 // Answers a line by what is proposed for it. Which proposal it is, is left open.

@@ -3,12 +3,12 @@
 ghost use Rattle.command_text.specs.Within.{BodyIsWithin};
 
 use anyhow::{Context, Result, bail};
+use byte_streams::{StdSource, SureSink, read_all};
 use command_text::{Body, Command, commands};
 use exchange_core::{Exchange, Reply};
 use frac::Frac64;
 use limits::MAX_BYTES;
 use narrow_clearing::{Pass, clear_first};
-use port_io::{StdSource, SureSink, read_all};
 use std::alloc::Global;
 
 // Takes the exchange one line further, or tells the pass in which the line's batch is cleared.

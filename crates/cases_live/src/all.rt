@@ -1,5 +1,5 @@
+use byte_streams::{MemSink, MemSource};
 use live_lines::serve;
-use port_io::{MemSink, MemSource};
 use secured_lines::SecuredLines;
 use std::alloc::{AllocError, Global};
 use std::test::Fail;

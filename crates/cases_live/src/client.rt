@@ -2,9 +2,9 @@
 ghost use Rattle.std.specs.Prelude.{None};
 ghost use Rattle.std.proofs.Common.{lit≤};
 ghost use Rattle.std.proofs.Math.Nat.{min-le_right};
-ghost use Rattle.port_io.specs.Faults.{as_count, last_count};
+ghost use Rattle.byte_streams.specs.Faults.{as_count, last_count};
 
-use port_io::{ReadAnswer, Sink, Source, WriteAnswer};
+use byte_streams::{ReadAnswer, Sink, Source, WriteAnswer};
 use std::cell::Cell;
 
 /// What the client sends, and what it awaits then.

@@ -1,6 +1,6 @@
+use byte_streams::{MemSink, Stop};
 use exchange_sessions::answer_messages;
 use limits::MAX_BYTES;
-use port_io::{MemSink, Stop};
 use std::alloc::{AllocError, Global};
 use std::test::Fail;
 

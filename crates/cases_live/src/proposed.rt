@@ -1,7 +1,7 @@
 // Books proposed for, each between two reads.
 use crate::client::{Client, Replies, Sent};
 use book_proposals::propose_live;
-use port_io::{MemSink, MemSource};
+use byte_streams::{MemSink, MemSource};
 use std::alloc::{AllocError, Global};
 use std::cell::Cell;
 use std::test::Fail;

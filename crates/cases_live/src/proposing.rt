@@ -99,16 +99,29 @@ clear,1,1
 "#,
 ];
 
+// Nor where one of the orders is cancelled.
+static FEWER_ORDERS: [&str; 2] = [
+    r#"propose,1,{"certificate":{"cover":"line","measure":[{"state":["1","0"],"weight":"3/7"},{"state":["1","12"],"weight":"4/7"},{"state":["0","1"],"weight":"4"}]},"fills":["1/2","1/7","5/14"],"liability":"0","orders":[1,2,3],"surplus":"3/7"}
+cancel,2,3
+clear,1,1
+"#,
+    r#"{"best_surplus":"3/7","bound":"6/7","least_bound":"6/7","line":8,"market":1,"reply":"proposed","surplus":"3/7"}
+{"line":9,"order":3,"reply":"cancelled"}
+{"batch":1,"certificate":{"cover":"line","measure":[{"state":["1","0"],"weight":"1"},{"state":["0","1"],"weight":"6"}]},"fills":["0","0"],"liability":"0","line":10,"mark":"optimal","market":1,"orders":[{"account":1,"form":[-10,1],"order":1,"price":6,"quantity":1,"side":"buy"},{"account":2,"form":[-5,1],"order":2,"price":8,"quantity":1,"side":"sell"}],"reply":"cleared","surplus":"0","underlyings":1,"units":1,"version":1}
+"#,
+];
+
 // The point 1, 0 of a measure, 1,023 of the weights of a measure of 1,024 points, and the last.
 static POINT: &str = r#"{"state":["1","0"],"weight":"1125899906842623/1152921504606846976"},"#;
 
 static LAST_POINT: &str = r#"{"state":["1","0"],"weight":"1125899906843647/1152921504606846976"}"#;
 
-// A proposal of 69,813 bytes: as long as its measure makes it, which is the point 1, 0 in all.
-fn long_proposal(alloc: Global) -> Result<String, AllocError> {
+// A proposal as long as its measure makes it, which is the point 1, 0 in all: of 69,813 bytes where
+// that point stands there 1,023 times before the last.
+fn long_proposal(alloc: Global, before: u32) -> Result<String, AllocError> {
     let mut line = String::new(alloc);
     line.push_str(r#"propose,1,{"certificate":{"cover":"line","measure":["#)?;
-    for _ in 0..1_023 {
+    for _ in 0..before {
         line.push_str(POINT)?;
     }
     line.push_str(LAST_POINT)?;
@@ -121,19 +134,31 @@ fn long_proposal(alloc: Global) -> Result<String, AllocError> {
 #[test]
 fn long_proposals_are_judged(rt: HostRuntime) -> Result<(), Fail> {
     let alloc = rt.alloc();
-    let line = long_proposal(alloc)?;
+    let line = long_proposal(alloc, 1_023)?;
     assert!(rt; 65_536 < line.len());
     let told =
         r#"{"best_surplus":"3/7","bound":"6","least_bound":"6","line":8,"market":1,"reply":"proposed","surplus":"3/7"}
 "#;
     assert!(rt; ends_with(alloc, BUTTERFLY, &line, told)?);
+    let longer = long_proposal(alloc, 1_024)?;
+    let refused = r#"{"line":8,"number":1,"reason":"Syntax","reply":"refused"}
+"#;
+    assert!(rt; ends_with(alloc, BUTTERFLY, &longer, refused)?);
     Ok(())
 }
 
 #[test]
 fn proposals_are_judged_and_charged(rt: HostRuntime) -> Result<(), Fail> {
     let alloc = rt.alloc();
-    for [lines, replies] in [KEPT, OPTIMAL, HALVES, REFUSED, OTHER_ORDERS, SAME_AGAIN] {
+    for [lines, replies] in [
+        KEPT,
+        OPTIMAL,
+        HALVES,
+        REFUSED,
+        OTHER_ORDERS,
+        SAME_AGAIN,
+        FEWER_ORDERS,
+    ] {
         assert!(rt; ends_with(alloc, BUTTERFLY, lines, replies)?, "{replies}");
     }
     Ok(())

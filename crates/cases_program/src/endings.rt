@@ -289,4 +289,15 @@ margin,2,1,1
 = {"line":777,"number":13,"reason":"TooMany","reply":"refused"}
 withdraw,2,1
 = {"line":778,"need":"positions","number":14,"reason":"Margin","reply":"refused"}
+== serve: fills of a put with 300 denominators, and what they need: 300 ticks above the least margin
+open,1
+open,2
+open,3
+deposit,1,10000
+deposit,2,10000
+secure,2
+market,1,1
+* 300 buy,1,1,put,5,9,1,1;sell,2,1,put,10,5,1,1;sell,3,1,put,1,0,1,#;clear,1,100
+need,2
+= {"account":2,"balance":"10600","line":1208,"need":"1797","reply":"need","secured":true}
 "#;

@@ -1,8 +1,8 @@
 // Faults of reads and writes, and words that ask for nothing.
 use crate::running::{MATCHED, MATCHED_REPLIES, assert_lines, run};
+use byte_streams::{SureSink, SureSource};
 use exchange_program::{Status, exchange};
 use limits::MAX_BYTES;
-use port_io::{SureSink, SureSource};
 use std::test::Fail;
 
 #[test]

@@ -262,4 +262,28 @@ pub(crate) static JOURNALS: &str = r#"== check: a first clearing
 == check: a withdrawal kept back
 {"line":1,"need":"11","number":14,"reason":"Margin","reply":"refused"}
 = {"line":1,"reason":"Shape","verdict":"no"}
+== audit: a batch that is cleared as a proposal had it
+{"account":1,"line":1,"reply":"opened"}
+{"account":2,"line":2,"reply":"opened"}
+{"account":1,"balance":"100","line":3,"reply":"deposited"}
+{"line":4,"market":1,"reply":"listed","underlyings":1}
+{"line":5,"order":1,"reply":"placed"}
+{"line":6,"order":2,"reply":"placed"}
+{"line":7,"order":3,"reply":"placed"}
+{"line":8,"market":1,"orders":[{"account":1,"legs":[{"count":1,"form":[-10,1]}],"order":1,"price":6,"quantity":1,"side":"buy"},{"account":2,"legs":[{"count":1,"form":[-5,1]}],"order":2,"price":8,"quantity":1,"side":"sell"},{"account":2,"legs":[{"count":1,"form":[-12,1]}],"order":3,"price":4,"quantity":1,"side":"sell"}],"reply":"book","underlyings":1}
+{"best_surplus":"3/7","bound":"6/7","least_bound":"6/7","line":9,"market":1,"reply":"proposed","surplus":"3/7"}
+{"batch":1,"bound":"6/7","certificate":{"cover":"line","measure":[{"state":["1","0"],"weight":"3/7"},{"state":["1","12"],"weight":"4/7"},{"state":["0","1"],"weight":"4"}]},"fills":["1/2","1/7","5/14"],"liability":"0","line":10,"mark":"bounded","market":1,"orders":[{"account":1,"legs":[{"count":1,"form":[-10,1]}],"order":1,"price":6,"quantity":1,"side":"buy"},{"account":2,"legs":[{"count":1,"form":[-5,1]}],"order":2,"price":8,"quantity":1,"side":"sell"},{"account":2,"legs":[{"count":1,"form":[-12,1]}],"order":3,"price":4,"quantity":1,"side":"sell"}],"reply":"cleared","run":"budget","surplus":"3/7","underlyings":1,"units":1,"version":3}
+= {"batches":1,"bounded":1,"lines":10,"optimal":0,"verdict":"yes"}
+== audit: the same with another bound
+{"account":1,"line":1,"reply":"opened"}
+{"account":2,"line":2,"reply":"opened"}
+{"account":1,"balance":"100","line":3,"reply":"deposited"}
+{"line":4,"market":1,"reply":"listed","underlyings":1}
+{"line":5,"order":1,"reply":"placed"}
+{"line":6,"order":2,"reply":"placed"}
+{"line":7,"order":3,"reply":"placed"}
+{"line":8,"market":1,"orders":[{"account":1,"legs":[{"count":1,"form":[-10,1]}],"order":1,"price":6,"quantity":1,"side":"buy"},{"account":2,"legs":[{"count":1,"form":[-5,1]}],"order":2,"price":8,"quantity":1,"side":"sell"},{"account":2,"legs":[{"count":1,"form":[-12,1]}],"order":3,"price":4,"quantity":1,"side":"sell"}],"reply":"book","underlyings":1}
+{"best_surplus":"3/7","bound":"6/7","least_bound":"6/7","line":9,"market":1,"reply":"proposed","surplus":"3/7"}
+{"batch":1,"bound":"1","certificate":{"cover":"line","measure":[{"state":["1","0"],"weight":"3/7"},{"state":["1","12"],"weight":"4/7"},{"state":["0","1"],"weight":"4"}]},"fills":["1/2","1/7","5/14"],"liability":"0","line":10,"mark":"bounded","market":1,"orders":[{"account":1,"legs":[{"count":1,"form":[-10,1]}],"order":1,"price":6,"quantity":1,"side":"buy"},{"account":2,"legs":[{"count":1,"form":[-5,1]}],"order":2,"price":8,"quantity":1,"side":"sell"},{"account":2,"legs":[{"count":1,"form":[-12,1]}],"order":3,"price":4,"quantity":1,"side":"sell"}],"reply":"cleared","run":"budget","surplus":"3/7","underlyings":1,"units":1,"version":3}
+= {"line":10,"reason":"Bound","verdict":"no"}
 "#;

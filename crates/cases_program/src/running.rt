@@ -1,6 +1,6 @@
 // How the program is run, and how what it writes is compared.
+use byte_streams::{MemSink, MemSource};
 use exchange_program::{Status, exchange};
-use port_io::{MemSink, MemSource};
 use std::alloc::{AllocError, Global};
 use std::process::Abort;
 

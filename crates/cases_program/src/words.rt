@@ -5,7 +5,7 @@ use std::test::Fail;
 
 // Words that ask for nothing, apart by bars; the last is a word without a letter.
 static OTHERS: &str =
-    "demo 4294967296 1|demo 1 10001|demo 1 0|demo 01 1|demo +1 1|demo 1 -1|demo 1|demo 1 1 1|demo  1|run run|run quotes|quotes 1|quote|audit 1|Audit|guarded guarded|Guarded|Run|serve serve|serve 1|propose 1|propose sessions|Propose|sessions serve|serve sessions 1|help|--help|-h|--|";
+    "demo 4294967296 1|demo 1 10001|demo 1 0|demo 01 1|demo +1 1|demo 1 -1|demo 1|demo 1 1 1|demo  1|run run|run quotes|quotes 1|quote|audit 1|Audit|guarded guarded|Guarded|Run|serve serve|serve 1|propose 1|propose sessions|Propose|sessions serve|serve sessions 1|members|serve members 1|serve Members|help|--help|-h|--|";
 
 // What these words ask for, apart by blanks.
 fn asked(alloc: Global, line: &str) -> Result<Result<Request, WordsFault>, AllocError> {
@@ -34,6 +34,7 @@ fn words_ask_for_what_is_listed(rt: HostRuntime) -> Result<(), Fail> {
         ("sessions", Request::Sessions),
         ("serve", Request::Serve(Served::Lines)),
         ("serve sessions", Request::Serve(Served::Sessions)),
+        ("serve members", Request::Serve(Served::Members)),
         ("propose", Request::Propose),
     ] {
         assert_eq!(rt; asked(rt.alloc(), line)?, Ok(expected), "{line}");

@@ -1,10 +1,10 @@
 -- What a run that answers true leaves.
 use Rattle.std.proofs.Common.{◌≡◌, true, sym, ◌∙◌}
 use Rattle.std.specs.Prelude.{Result, Ok, Bool}
-use Rattle.table_run.specs.Program.{LinearProgram}
-use Rattle.table_run.specs.Ending.{Ending}
-use Rattle.table_run.specs.Run.{Optimum}
-use Rattle.table_run.specs.Optimum.{IsAsSaid}
+use Rattle.simplex_run.specs.Program.{LinearProgram}
+use Rattle.simplex_run.specs.Ending.{Ending}
+use Rattle.simplex_run.specs.Run.{Optimum}
+use Rattle.simplex_run.specs.Optimum.{IsAsSaid}
 use Rattle.simplex.specs.declared.stop.RunStop.{RunStop}
 use Rattle.simplex.specs.Spaces.{Contents, IsFound, answer_of, contents_after}
 use Rattle.simplex.proofs.SolveSteps.{has_optimum}

@@ -3,15 +3,15 @@ ghost use Rattle.std.specs.Prelude.{◌≡◌, ◌*◌, ◌≤◌, IsTrue, true,
 ghost use Rattle.exact_num.specs.Fraction.{IsNotBelowZero};
 ghost use Rattle.frac.specs.Narrow.{narrow_fraction};
 ghost use Rattle.frac.specs.Value.{fraction_of};
-ghost use Rattle.compact_table.specs.declared.limits.TheConstants.{MAX_SIDE};
+ghost use Rattle.fraction_tableau.specs.declared.limits.TheConstants.{MAX_SIDE};
 
 use crate::printing::{print_number, print_wide};
 use crate::program_table::CASES;
 use crate::reading::{number, numbers, pair};
 use crate::signs::is_none_below_zero;
-use compact_table::MAX_SIDE;
 use exact_num::{Exact, Operator, Wide};
 use frac::{Frac64, Frac128};
+use fraction_tableau::MAX_SIDE;
 use simplex::{Budget, Program, RunStop, Solved, Space, Stop, choices, solve};
 use std::alloc::{AllocError, Global};
 use std::test::Fail;

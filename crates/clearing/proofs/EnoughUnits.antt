@@ -1,10 +1,10 @@
 -- With enough units the mark is not for want of one.
 use Rattle.std.proofs.Common.{◌≡◌, ℕ, subst, arith}
 use Rattle.frac.specs.Range.{limit as largest}
-use Rattle.table_run.specs.Ending.{no_unit_left}
-use Rattle.rounds.specs.Answers.{limits_of}
-use Rattle.rounds.specs.Run.{joint_run}
-use Rattle.rounds.proofs.EnoughUnits.{units_suffice_on_line}
+use Rattle.simplex_run.specs.Ending.{no_unit_left}
+use Rattle.constraint_generation.specs.Answers.{limits_of}
+use Rattle.constraint_generation.specs.Run.{joint_run}
+use Rattle.constraint_generation.proofs.EnoughUnits.{units_suffice_on_line}
 use Rattle.clearing.specs.Laws.{UnitsSuffice}
 use Rattle.clearing.specs.Outcome.{EndsAs, outcome_of, run_of}
 use Rattle.clearing.proofs.Marks.{outcomes_are_marked}

@@ -8,15 +8,15 @@ use Rattle.exact_num.specs.Fraction.{Fraction}
 use Rattle.frac.specs.Range.{limit as largest}
 use Rattle.frac.specs.ValueOf.{has_128_bits}
 use Rattle.exact_num.specs.Tests.{is_lowest}
-use Rattle.table_run.specs.Ending.{Ending, done, unbounded, wide_at, no_unit_left}
+use Rattle.simplex_run.specs.Ending.{Ending, done, unbounded, wide_at, no_unit_left}
 use Rattle.form.specs.declared.orders.Batch.{Batch}
 use Rattle.form.specs.Limits.{IsWithinLimits}
 use Rattle.clearing_model.specs.Certificate.{Point, by_of, fraction_weight, fractions_of}
 use Rattle.clearing_model.specs.Written.{multipliers_of}
 use Rattle.master_program.specs.Reading.{Reading, reading_with}
-use Rattle.rounds.specs.Answers.{limits_of}
-use Rattle.rounds.specs.Run.{Solution, by_line, by_tree}
-use Rattle.rounds.proofs.JointRuns.{no_run_is_without_end}
+use Rattle.constraint_generation.specs.Answers.{limits_of}
+use Rattle.constraint_generation.specs.Run.{Solution, by_line, by_tree}
+use Rattle.constraint_generation.proofs.JointRuns.{no_run_is_without_end}
 use Rattle.run_values.specs.Values.{Ends, IsPointOf, IsReadingOf, IsSolutionOf, IsValue}
 use Rattle.run_values.proofs.Solutions.{runs_have_values}
 use Rattle.run_values.proofs.TreeSums.{by_values}

@@ -6,13 +6,13 @@ use Rattle.frac.specs.ValueOf.{value_of}
 use Rattle.form.specs.declared.orders.Order.{Order}
 use Rattle.form.specs.declared.orders.Batch.{Batch}
 use Rattle.clearing_model.specs.Clearing.{premium}
-use Rattle.each_match.specs.Match.{match_by_bundle}
-use Rattle.each_match.specs.Laws.{match_of}
+use Rattle.bundle_match.specs.Match.{match_by_bundle}
+use Rattle.bundle_match.specs.Laws.{match_of}
 use Rattle.simplex.specs.declared.stop.Stop.{Stop}
 use Rattle.simplex.specs.declared.stop.Stop.TheVariants.{Wide as WideStop, Budget as BudgetStop}
-use Rattle.rounds.specs.Answers.{IsCoverAs, IsJointAnswer}
-use Rattle.rounds.specs.Run.{WrittenCover, Solution}
-use Rattle.table_run.specs.Ending.{Ending, done, wide_at, no_unit_left}
+use Rattle.constraint_generation.specs.Answers.{IsCoverAs, IsJointAnswer}
+use Rattle.constraint_generation.specs.Run.{WrittenCover, Solution}
+use Rattle.simplex_run.specs.Ending.{Ending, done, wide_at, no_unit_left}
 use Rattle.frac.specs.declared.frac128.Frac128.{Frac128}
 use Rattle.frac.specs.Value.{fraction_of}
 use Rattle.frac.proofs.ValueOf.{value-fraction_of}

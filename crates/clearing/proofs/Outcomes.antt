@@ -30,19 +30,19 @@ use Rattle.cert_check.specs.declared.outcome.No.TheVariants as no
 use Rattle.cert_check.specs.declared.outcome.Outcome.{Outcome}
 use Rattle.cert_check.specs.Conditions.{IfOptimal, OwesNothing, IsEnough, Meets, conditions}
 use Rattle.cert_check.proofs.Certified.{conditions_cover, conditions_measure, conditions_prove}
-use Rattle.each_match.specs.Match.{match_by_bundle}
-use Rattle.each_match.specs.Laws.{match_of}
-use Rattle.each_match.proofs.MatchLaws.{match_is_within, match_is_balanced, match_earns, fills_small}
+use Rattle.bundle_match.specs.Match.{match_by_bundle}
+use Rattle.bundle_match.specs.Laws.{match_of}
+use Rattle.bundle_match.proofs.MatchLaws.{match_is_within, match_is_balanced, match_earns, fills_small}
 use Rattle.master_program.specs.Reading.{Reading}
 use Rattle.master_program.specs.Certified.{IsGreatestByMeasure}
 use Rattle.master_program.specs.Verdict.{IsOutcomeOf, IsNotRefused}
 use Rattle.master_program.proofs.Verdict.{line_readings_are_not_refused}
-use Rattle.rounds.proofs.Rounds.{rounds_are_not_refused}
-use Rattle.rounds.proofs.JointRuns.{cleared_is_greatest}
-use Rattle.rounds.specs.Answers.{IsCoverAs, limits_of}
-use Rattle.rounds.specs.Laws.{IsGreatestBy}
-use Rattle.rounds.specs.Run.{WrittenCover, by_line, by_tree, Solution}
-use Rattle.table_run.specs.Ending.{Ending, done, wide_at, no_unit_left, unbounded}
+use Rattle.constraint_generation.proofs.Rounds.{rounds_are_not_refused}
+use Rattle.constraint_generation.proofs.JointRuns.{cleared_is_greatest}
+use Rattle.constraint_generation.specs.Answers.{IsCoverAs, limits_of}
+use Rattle.constraint_generation.specs.Laws.{IsGreatestBy}
+use Rattle.constraint_generation.specs.Run.{WrittenCover, by_line, by_tree, Solution}
+use Rattle.simplex_run.specs.Ending.{Ending, done, wide_at, no_unit_left, unbounded}
 use Rattle.clearing.specs.Outcome.{weighted_of, measure_of, tree_of, cover_of, optimal_outcome, fallback, is_value, are_values, multipliers_in, reading_has_values, has_values, outcome_at, run_of, outcome_of}
 use Rattle.clearing.specs.Laws.{OutcomesMeetAll, OutcomesAreWithin, OutcomesAreCovered, OutcomesAreMeasured, OptimalIsGreatest}
 use Rattle.clearing.proofs.Surplus.{premium_small}

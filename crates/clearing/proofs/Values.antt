@@ -15,8 +15,8 @@ use Rattle.sign_tree.specs.declared.trees.SignTree.{SignTree}
 use Rattle.sign_tree.specs.Read.{node_of, placed_of}
 use Rattle.cert_check.specs.declared.outcome.Cover.{Cover}
 use Rattle.cert_check.specs.declared.outcome.Cover.TheVariants.{Line, Tree}
-use Rattle.rounds.specs.Answers.{IsCoverAs, IsTreeAs}
-use Rattle.rounds.specs.Run.{WrittenCover, by_line, by_tree}
+use Rattle.constraint_generation.specs.Answers.{IsCoverAs, IsTreeAs}
+use Rattle.constraint_generation.specs.Run.{WrittenCover, by_line, by_tree}
 use Rattle.cert_check.specs.declared.measures.Weighted.{Weighted}
 use Rattle.cert_check.specs.Points.{point_of}
 use Rattle.clearing_model.specs.Certificate.{fraction_weight, by_of}

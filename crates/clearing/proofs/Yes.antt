@@ -20,11 +20,11 @@ use Rattle.cert_check.specs.Cover.{mark_covers, fallback_holds}
 use Rattle.cert_check.specs.Tests.{surplus_holds}
 use Rattle.cert_check.specs.Events.{cover_condition_holds, verdict_of}
 use Rattle.cert_check.proofs.Yes.{said}
-use Rattle.each_match.specs.Match.{match_by_bundle}
-use Rattle.rounds.proofs.JointRuns.{cleared_passes_the_verdict}
-use Rattle.rounds.specs.Answers.{limits_of}
-use Rattle.rounds.specs.Run.{Solution}
-use Rattle.table_run.specs.Ending.{Ending, done, wide_at, no_unit_left, unbounded}
+use Rattle.bundle_match.specs.Match.{match_by_bundle}
+use Rattle.constraint_generation.proofs.JointRuns.{cleared_passes_the_verdict}
+use Rattle.constraint_generation.specs.Answers.{limits_of}
+use Rattle.constraint_generation.specs.Run.{Solution}
+use Rattle.simplex_run.specs.Ending.{Ending, done, wide_at, no_unit_left, unbounded}
 use Rattle.clearing.specs.Outcome.{measure_of, cover_of, optimal_outcome, fallback, has_values, outcome_at, run_of, outcome_of}
 use Rattle.clearing.specs.Laws.{OutcomesAreJudgedYes}
 use Rattle.clearing.proofs.Fitting.{surplus_fits, balances_fit}

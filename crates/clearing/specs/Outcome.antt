@@ -24,14 +24,14 @@ use Rattle.cert_check.specs.declared.outcome.Cover.TheVariants.{Line, Tree}
 use Rattle.cert_check.specs.declared.outcome.Mark.{Mark}
 use Rattle.cert_check.specs.declared.outcome.Mark.TheVariants.{Optimal, Wide, Budget}
 use Rattle.cert_check.specs.declared.outcome.Outcome.{Outcome}
-use Rattle.each_match.specs.Match.{match_by_bundle}
-use Rattle.each_match.specs.Laws.{match_of}
+use Rattle.bundle_match.specs.Match.{match_by_bundle}
+use Rattle.bundle_match.specs.Laws.{match_of}
 use Rattle.master_program.specs.Reading.{Reading}
-use Rattle.rounds.specs.declared.joint.Joint.{Joint}
-use Rattle.rounds.specs.Answers.{IsCoverAs, claimed_in, limits_of, reading_in}
-use Rattle.rounds.specs.Laws.{choices_of}
-use Rattle.rounds.specs.Run.{WrittenCover, by_line, by_tree, Solution, joint_run, sums_of}
-use Rattle.table_run.specs.Ending.{Ending, done, wide_at, no_unit_left, unbounded, on_answer, where_fits}
+use Rattle.constraint_generation.specs.declared.joint.Joint.{Joint}
+use Rattle.constraint_generation.specs.Answers.{IsCoverAs, claimed_in, limits_of, reading_in}
+use Rattle.constraint_generation.specs.Laws.{choices_of}
+use Rattle.constraint_generation.specs.Run.{WrittenCover, by_line, by_tree, Solution, joint_run, sums_of}
+use Rattle.simplex_run.specs.Ending.{Ending, done, wide_at, no_unit_left, unbounded, on_answer, where_fits}
 
 -- a point of the model as one of the code
 abbrev pub weighted_of : Point → Weighted

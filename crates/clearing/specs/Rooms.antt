@@ -5,10 +5,10 @@ use Rattle.frac.specs.ValueOf.{value_of}
 use Rattle.form.specs.declared.orders.Order.{Order}
 use Rattle.form.specs.declared.orders.Batch.{Batch}
 use Rattle.clearing_model.specs.Clearing.{premium}
-use Rattle.each_match.specs.Match.{match_by_bundle}
-use Rattle.each_match.specs.Laws.{match_of}
+use Rattle.bundle_match.specs.Match.{match_by_bundle}
+use Rattle.bundle_match.specs.Laws.{match_of}
 use Rattle.cert_check.specs.Tests.{AreSigns}
-use Rattle.rounds.specs.Rooms.{IsJointRoom}
+use Rattle.constraint_generation.specs.Rooms.{IsJointRoom}
 use Rattle.clearing.specs.declared.fallback.Matched.{Matched}
 use Rattle.clearing.specs.declared.room.ClearRoom.{ClearRoom}
 use Rattle.clearing.specs.Outcome.{whole_fills}

@@ -11,18 +11,18 @@ ghost use Rattle.cert_check.specs.Conditions.{IfOptimal};
 ghost use Rattle.cert_check.specs.Events.{verdict_of};
 ghost use Rattle.cert_check.specs.Laws.{IsCovered, IsMeasured, IsProved};
 ghost use Rattle.cert_check.specs.Tests.{AreSigns};
-ghost use Rattle.rounds.specs.Answers.{IsJointAnswer, IsJointOf, as_stopped};
-ghost use Rattle.rounds.specs.Run.{Solution};
-ghost use Rattle.table_run.specs.Ending.{Ending};
+ghost use Rattle.constraint_generation.specs.Answers.{IsJointAnswer, IsJointOf, as_stopped};
+ghost use Rattle.constraint_generation.specs.Run.{Solution};
+ghost use Rattle.simplex_run.specs.Ending.{Ending};
 ghost use Rattle.clearing.specs.Outcome.{HasEnoughUnits, IsMarked, IsOptimalOutcome, judged, outcome_of, run_of};
 ghost use Rattle.clearing.specs.Rooms.{IsClearRoom, IsEndRoom, IsMatchOf};
 
 use crate::fallback::{Matched, fallback};
 use crate::room::ClearRoom;
 use cert_check::{Claim, Fills, Mark, Outcome};
+use constraint_generation::{Joint, judge};
 use form::Batch;
 use frac::Frac128;
-use rounds::{Joint, judge};
 use simplex::{Budget, RunStop};
 use std::alloc::{AllocError, Global};
 

@@ -11,8 +11,8 @@ ghost use Rattle.clearing.specs.Outcome.{fallback, whole_fills};
 ghost use Rattle.clearing.specs.Premiums.{amount_on, paid_total};
 ghost use Rattle.clearing.specs.Rooms.{IsMatchOf};
 
+use bundle_match::match_each;
 use cert_check::{Claim, Fills, Mark, Outcome};
-use each_match::match_each;
 use form::{Batch, Order, Side};
 use frac::{Frac128, whole};
 use lists::take_list;

@@ -6,9 +6,9 @@ ghost use Rattle.form.specs.Limits.{IsWithinLimits};
 ghost use Rattle.clearing.specs.Rooms.{IsClearRoom};
 
 use crate::fallback::Matched;
+use constraint_generation::JointRoom;
 use form::Batch;
 use frac::Frac128;
-use rounds::JointRoom;
 use sign_tree::leg_count;
 use std::alloc::{AllocError, Global};
 

@@ -1,8 +1,8 @@
 //! The exchange program on its words and standard streams.
 #![tactic(auto)]
 
+use byte_streams::{StdSink, StdSource};
 use exchange_program::{Status, exchange};
-use port_io::{StdSink, StdSource};
 use std::io;
 use std::process::ExitCode;
 

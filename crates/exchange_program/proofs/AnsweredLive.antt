@@ -1,9 +1,9 @@
 -- What is written between two reads, where a function answers.
 use Rattle.std.proofs.Common.{◌≡◌, ◌∙◌, ℕ, List, Bool, Option, Result, ap, subst, sym}
 use Rattle.std.specs.Io.KnownBytes.{Appends}
-use Rattle.port_io.specs.Reads.{LastRead}
-use Rattle.port_io.specs.Writes.{AppendsFront}
-use Rattle.port_io.specs.declared.stop.Stop.{Stop}
+use Rattle.byte_streams.specs.Reads.{LastRead}
+use Rattle.byte_streams.specs.Writes.{AppendsFront}
+use Rattle.byte_streams.specs.declared.stop.Stop.{Stop}
 use Rattle.live_lines.specs.Answering.{Answering}
 use Rattle.live_lines.specs.Output.{output_of}
 use Rattle.live_lines.specs.Serving.{Counts, IsServed, IsServedInTime, Known, Wrote, WroteFirst, WroteSome}

@@ -2,10 +2,10 @@
 use Rattle.std.proofs.Common.{◌≡◌, ◌⊎◌, ℕ, List, [], append-nil, true, Bool, Option, Some, None, IfSome, Result, Ok, Err, IsOk, OnOk, refl, sym, ap, ◌∙◌, subst, inl, inr}
 use Rattle.std.proofs.KnownBytes.{Consumes-nil}
 use Rattle.std.proofs.lemmas.Option.{IfSome_then}
-use Rattle.port_io.specs.Reads.{LastRead}
-use Rattle.port_io.specs.Writes.{AppendsFront}
-use Rattle.port_io.specs.declared.stop.Stop.{Stop}
-use Rattle.port_io.specs.declared.stop.Stop.TheVariants as stop
+use Rattle.byte_streams.specs.Reads.{LastRead}
+use Rattle.byte_streams.specs.Writes.{AppendsFront}
+use Rattle.byte_streams.specs.declared.stop.Stop.{Stop}
+use Rattle.byte_streams.specs.declared.stop.Stop.TheVariants as stop
 use Rattle.book_proposals.specs.LiveAnswers.{AreAnswers, texts_in}
 use Rattle.book_proposals.specs.Proposing.{WroteFor, WroteFrontFor, WroteFrontOf}
 use Rattle.demo_run.specs.Demo.{demo_output}

@@ -2,7 +2,7 @@
 use Rattle.std.proofs.Common.{◌≡◌, ℕ, true, List, [], Option, Some, None, IfSome, refl, sym, ◌∙◌, subst}
 use Rattle.std.specs.List.{All}
 use Rattle.std.specs.Io.KnownBytes.{Appends}
-use Rattle.port_io.specs.Writes.{AppendsFront}
+use Rattle.byte_streams.specs.Writes.{AppendsFront}
 use Rattle.journal_check.specs.JournalLines.{lines_of}
 use Rattle.journal_check.specs.declared.reports.Report.{Report}
 use Rattle.journal_check.specs.declared.reports.Report.TheVariants.{Sound, Faulty}
@@ -14,11 +14,11 @@ use Rattle.exchange_lines.proofs.AsRun.{runs_tell_answers}
 use Rattle.asked_lines.proofs.Apart.{tells_beside}
 use Rattle.secured_lines.specs.Asked.{secured_asks}
 use Rattle.secured_lines.specs.Output.{secured_line}
-use Rattle.secured_lines.specs.Promises.{TellSecured}
 use Rattle.secured_lines.specs.SecuredState.{empty_secured}
-use Rattle.secured_lines.proofs.Outputs.{outputs_tell_secured}
+use Rattle.served_members.specs.Lines.{TellServed}
+use Rattle.served_members.proofs.LinesKept.{outputs_tell_served}
 use Rattle.exchange_sessions.specs.Answers.{sessions_output}
-use Rattle.exchange_sessions.proofs.TellLaws.{output_tells_once, sessions_tell_once}
+use Rattle.exchange_sessions.proofs.TellLaws.{members_tell_beside, output_tells_once, sessions_tell_once}
 use Rattle.guarded_lines.proofs.AsRun.{guarded_tell_answers}
 use Rattle.live_lines.proofs.Fronts.{no_front}
 use Rattle.book_proposals.specs.LiveAnswers.{texts_in}
@@ -46,8 +46,9 @@ told_in Quotes input = quotes_tell_answers input
 told_in Guarded input = guarded_tell_answers input
 
 pub told_served : (kind : Served) (input : List ℕ) → ServedTell kind input (served_output kind input)
-told_served served.Lines input = tells_beside secured_asks secured_line true empty_secured TellSecured outputs_tell_secured input
+told_served served.Lines input = tells_beside secured_asks secured_line true empty_secured TellServed outputs_tell_served input
 told_served served.Sessions input = sessions_tell_once input
+told_served served.Members input = members_tell_beside input
 
 -- what is written where the input is read first is told what is promised
 promised : (request : Request) (input : List ℕ) (P : List ℕ → Type 0) → IsReadFirst request → OfOutput request input P

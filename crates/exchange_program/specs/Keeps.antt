@@ -2,15 +2,15 @@
 use Rattle.std.specs.Prelude.{◌≡◌, ◌⊎◌, ◌≤◌, ◌+◌, true, length, IfSome}
 use Rattle.std.specs.List.{All}
 use Rattle.std.specs.Io.KnownBytes.{Appends}
-use Rattle.port_io.specs.Faults.{Rose, raised_by}
-use Rattle.port_io.specs.Reads.{TakesUpTo}
-use Rattle.port_io.specs.Writes.{AppendsFront}
+use Rattle.byte_streams.specs.Faults.{Rose, raised_by}
+use Rattle.byte_streams.specs.Reads.{TakesUpTo}
+use Rattle.byte_streams.specs.Writes.{AppendsFront}
 use Rattle.book_proposals.specs.Proposing.{WroteFor, WroteFrontFor, WroteFrontOf}
 use Rattle.journal_check.specs.JournalLines.{lines_of}
 use Rattle.live_lines.specs.Serving.{Counts, IsServed, Known}
 use Rattle.program_words.specs.declared.requests.Request.{Request}
 use Rattle.exchange_program.specs.Journals.{IsSoundIn, NamesFault}
-use Rattle.exchange_program.specs.Live.{EndsAs, WroteAnswers, WroteAnswersFront, skips_mark}
+use Rattle.exchange_program.specs.Live.{EndsAs, IsServedAs}
 use Rattle.exchange_program.specs.Requests.{HasEnded, IsCheck, IsInputWithin, IsPastLimit, IsReadWhole, OfInput, OfOutput, OfSomeInput, Promised, PromisedFront, WhereCheck, WhereDemo, WherePropose, WhereServe, WithLimit, past_size, status_for}
 use Rattle.exchange_program.specs.Wrote.{Wrote, WroteFront}
 use Rattle.exchange_program.specs.declared.status.Status.{Status}
@@ -43,8 +43,7 @@ pub record Keeps (request : Request) (known : Known) (counts : Counts) (status :
   pub within : HasEnded status ⊎ (status ≡ WriteFault) → OfInput request known.left (λ input. WithLimit request (λ limit. length input ≤ limit))
   -- Lines and messages that are served, and books that are proposed for: at each end what is
   -- written is that of the lines that were answered, and it keeps what is promised of them.
-  pub served : WhereServe request (λ kind.
-      EndsAs status (IsServed (WroteAnswers kind) (WroteAnswersFront kind) (WroteAnswersFront kind) (skips_mark kind) known counts))
+  pub served : WhereServe request (λ kind. EndsAs status (IsServedAs kind known counts))
   pub proposed : WherePropose request (EndsAs status (IsServed WroteFor WroteFrontFor WroteFrontOf true known counts))
   -- Within the limit and without a fault, the output is written, or there was no memory.
   pub complete : IsInputWithin request known.left → ¬ Rose counts.read counts.reads → ¬ Rose counts.write counts.writes → HasEnded status ⊎ (status ≡ Memory)

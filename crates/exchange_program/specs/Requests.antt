@@ -11,7 +11,7 @@ use Rattle.live_lines.specs.Serving as live_input
 use Rattle.live_lines.specs.Serving.{IsServedInTime}
 use Rattle.book_proposals.specs.LiveAnswers.{IsWrittenFor}
 use Rattle.book_proposals.specs.Proposing.{WroteFor}
-use Rattle.port_io.specs.Reads.{LastRead}
+use Rattle.byte_streams.specs.Reads.{LastRead}
 use Rattle.program_words.specs.declared.requests.Journal.{Journal}
 use Rattle.program_words.specs.declared.requests.Mode.{Mode}
 use Rattle.program_words.specs.declared.requests.Request.{Request}
@@ -21,7 +21,7 @@ use Rattle.program_words.specs.Requests.{request_of}
 use Rattle.exchange_program.specs.Journals.{report_in, report_line}
 use Rattle.exchange_program.specs.Live.{AnswerFirst, ServedTell, WroteAnswers, served_output, skips_mark}
 use Rattle.exchange_program.specs.Modes.{IsBesideIn, mode_output, step_in}
-use Rattle.limits.specs.declared.TheConstants.{MAX_BYTES}
+use Rattle.limits.specs.declared.TheConstants.{MAX_ACCOUNTS, MAX_BATCHES, MAX_BYTES, MAX_MARKETS}
 use Rattle.exchange_program.specs.declared.check.TheConstants.{MAX_JOURNAL}
 use Rattle.exchange_program.specs.declared.status.Status.{Status}
 use Rattle.exchange_program.specs.declared.status.Status.TheVariants.{Done, CheckNo}
@@ -43,6 +43,10 @@ pub record LimitsAreAsStated : Type 0 where
   pub journals : (journal : Journal) → limit_of (Check journal) ≡ Some 268435456
   pub sessions : limit_of Sessions ≡ Some 16777216
   pub demo : (seed count : ℕ) → limit_of (Demo seed count) ≡ Some 0
+  -- in the life of an exchange
+  pub accounts : MAX_ACCOUNTS ≡ 10000
+  pub markets : MAX_MARKETS ≡ 64
+  pub batches : MAX_BATCHES ≡ 2000000
 
 -- whether the mark in front of an input without such a limit is skipped
 abbrev pub skips_of : Request → Bool

@@ -1,15 +1,15 @@
 // The words `check` and `audit`: reply lines in, a report out.
 ghost use Rattle.std.specs.Prelude.{◌≡◌, ◌≢◌, Err, IfOk, OnOk, OnErr, IsErrOf, string_bytes};
 ghost use Rattle.std.specs.Io.KnownBytes.{Appends};
-ghost use Rattle.port_io.specs.Faults.{Rose};
-ghost use Rattle.port_io.specs.Writes.{AppendsFront};
+ghost use Rattle.byte_streams.specs.Faults.{Rose};
+ghost use Rattle.byte_streams.specs.Writes.{AppendsFront};
 ghost use Rattle.exchange_program.specs.Journals.{report_in as report_is, report_line, report_text_in};
 ghost use Rattle.exchange_program.specs.Requests.{status_by};
 
 use crate::status::Status;
+use byte_streams::{Sink, Stop, write_all};
 use journal_audit::audit_journal;
 use journal_check::{Report, audit_text, check_journal, text};
-use port_io::{Sink, Stop, write_all};
 use program_words::Journal;
 use std::alloc::{AllocError, Global};
 

@@ -2,12 +2,12 @@
 ghost use Rattle.std.specs.Prelude.{◌≢◌, ◌≤◌, Err, OnOk, OnErr, IsErrOf};
 ghost use Rattle.std.specs.Io.KnownBytes.{Appends};
 ghost use Rattle.demo_run.specs.Demo.{demo_output};
-ghost use Rattle.port_io.specs.Faults.{Rose};
-ghost use Rattle.port_io.specs.Writes.{AppendsFront};
+ghost use Rattle.byte_streams.specs.Faults.{Rose};
+ghost use Rattle.byte_streams.specs.Writes.{AppendsFront};
 ghost use Rattle.program_words.specs.declared.requests.TheConstants.{MAX_DEMO_ORDERS};
 
+use byte_streams::{Sink, Stop, write_all};
 use demo_run::demo;
-use port_io::{Sink, Stop, write_all};
 use std::alloc::Global;
 
 // Writes the summary of the demo of a seed and a number of orders.

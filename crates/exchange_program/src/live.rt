@@ -2,18 +2,21 @@
 ghost use Rattle.std.specs.Prelude.{◌≡◌, ℕ, List};
 ghost use Rattle.asked_lines.specs.Asked.{asking_first};
 ghost use Rattle.live_lines.specs.Output.{output_of};
-ghost use Rattle.live_lines.specs.Serving.{IsServed, IsServedInTime};
+ghost use Rattle.live_lines.specs.Serving.{IsServedInTime};
 ghost use Rattle.secured_lines.specs.SecuredState.{empty_secured};
+ghost use Rattle.served_members.specs.Members.{empty_members};
 ghost use Rattle.session_lines.specs.Sessions.{new_sessions};
-ghost use Rattle.exchange_program.specs.Live.{WroteAnswers, WroteAnswersFront, served_output, skips_mark, status_at};
+ghost use Rattle.exchange_program.specs.Live.{IsServedAs, WroteAnswers, counts_by, known_by, served_output, skips_mark, status_at};
 
 use crate::status::Status;
 use asked_lines::AskedLines;
+use byte_streams::{Sink, Source, Stop};
 use live_lines::{LineSteps, serve};
-use port_io::{Sink, Source, Stop};
+use member_lines::MemberLines;
 use program_words::Served;
 use secured_lines::SecuredLines;
-use session_lines::SessionLines;
+use served_members::ServedLines;
+use session_lines::{AnySession, SessionLines};
 use std::alloc::Global;
 
 // How the answers ended, as a status.
@@ -35,7 +38,7 @@ fn skips_mark(served: Served) -> bool
 {
     match served {
         Served::Lines => true,
-        Served::Sessions => false,
+        Served::Sessions | Served::Members => false,
     }
 }
 
@@ -52,20 +55,9 @@ fn serve_as<A: LineSteps + Drop, S: Source, K: Sink>(
         output_of A.step (skips_mark served) answers input ≡ served_output served input }
     ensures in_time { IsServedInTime (WroteAnswers served) (skips_mark served)
         (S.left source.old) (K.written sink.old) (S.last_read source.new) }
-    ensures served { IsServed (WroteAnswers served) (WroteAnswersFront served)
-        (WroteAnswersFront served) (skips_mark served) (record {
-          left = S.left source.old;
-          still = S.left source.new;
-          written = K.written sink.old;
-          writes = K.written sink.new;
-        }) (record {
-          read = S.faults source.old;
-          reads = S.faults source.new;
-          write = K.faults sink.old;
-          writes = K.faults sink.new;
-          taken = S.taken source.old;
-          takes = S.taken source.new;
-        }) result }
+    ensures served { IsServedAs served
+        (known_by S.left K.written source.old source.new sink.old sink.new)
+        (counts_by S.faults S.taken K.faults source.old source.new sink.old sink.new) result }
 {
     serve(alloc, answers, skips_mark(served), source, sink)
 }
@@ -78,10 +70,19 @@ fn asked_lines(alloc: Global) -> AskedLines<SecuredLines>
 }
 
 // Messages of sessions, likewise.
-fn asked_sessions(alloc: Global) -> AskedLines<SessionLines<SecuredLines>>
+fn asked_sessions(alloc: Global) -> AskedLines<SessionLines<AnySession<SecuredLines>>>
     ensures { result ≡ asking_first (new_sessions empty_secured) }
 {
-    AskedLines::new(SessionLines::new(alloc, SecuredLines::new(alloc)))
+    let lines = AnySession::new(SecuredLines::new(alloc));
+    AskedLines::new(SessionLines::new(alloc, lines))
+}
+
+// Messages by the rule of who may say what, likewise.
+fn asked_members(alloc: Global) -> AskedLines<SessionLines<MemberLines<ServedLines>>>
+    ensures { result ≡ asking_first (new_sessions empty_members) }
+{
+    let lines = MemberLines::new(alloc, ServedLines::new(alloc));
+    AskedLines::new(SessionLines::new(alloc, lines))
 }
 
 // Answers all lines or messages that are left.
@@ -93,23 +94,13 @@ pub(crate) fn answer_live<S: Source, K: Sink>(
 ) -> Result<(), Stop>
     ensures in_time { IsServedInTime (WroteAnswers served) (skips_mark served)
         (S.left source.old) (K.written sink.old) (S.last_read source.new) }
-    ensures served { IsServed (WroteAnswers served) (WroteAnswersFront served)
-        (WroteAnswersFront served) (skips_mark served) (record {
-          left = S.left source.old;
-          still = S.left source.new;
-          written = K.written sink.old;
-          writes = K.written sink.new;
-        }) (record {
-          read = S.faults source.old;
-          reads = S.faults source.new;
-          write = K.faults sink.old;
-          writes = K.faults sink.new;
-          taken = S.taken source.old;
-          takes = S.taken source.new;
-        }) result }
+    ensures served { IsServedAs served
+        (known_by S.left K.written source.old source.new sink.old sink.new)
+        (counts_by S.faults S.taken K.faults source.old source.new sink.old sink.new) result }
 {
     match served {
         Served::Lines => serve_as(alloc, served, asked_lines(alloc), source, sink),
         Served::Sessions => serve_as(alloc, served, asked_sessions(alloc), source, sink),
+        Served::Members => serve_as(alloc, served, asked_members(alloc), source, sink),
     }
 }

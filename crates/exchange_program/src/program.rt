@@ -2,13 +2,14 @@
 ghost use Rattle.std.specs.Prelude.{◌≡◌, ◌⊎◌, None, map, string_bytes};
 ghost use Rattle.program_words.specs.Requests.{request_of};
 ghost use Rattle.exchange_program.specs.Keeps.{Keeps};
+ghost use Rattle.exchange_program.specs.Live.{counts_by, known_by};
 ghost use Rattle.exchange_program.specs.Requests.{HadWritten, IsReadFirst, WhereDemo, WithRequest};
 
 use crate::live::{answer_live, status_at};
 use crate::serving::answer_whole_input;
 use crate::status::Status;
 use book_proposals::propose_live;
-use port_io::{Sink, Source};
+use byte_streams::{Sink, Source};
 use program_words::{Request, WordsFault, request};
 use std::alloc::Global;
 
@@ -19,16 +20,17 @@ use std::alloc::Global;
 /// `guarded` does the same as `run` and also answers which liability covers an account's positions,
 /// and it refuses a withdrawal below what the account needs. `check` reads reply lines to their end
 /// and writes one report line: that all are sound, with their counts, or the first that is not, and
-/// why. `audit` does the same with lines that `serve` or `serve sessions` wrote. `sessions` reads
-/// messages to their end and answers each, once and in its session's order. `serve` answers lines
-/// of every kind, those of `quotes` and of `guarded`, what a book and an account hold, and
-/// proposals, of which it charges the best where a clear's own run stops; it has written the
-/// answers to all lines that are complete before it reads on. A line that asks has no number and
-/// changes nothing. `serve sessions` does so with messages of sessions, whose bodies are such lines.
-/// `propose` is a solver: for each line that tells a market's book, as `serve` writes it, it writes
-/// a line that proposes for these orders and is judged a bound, before it reads on, and for any
-/// other line nothing. `demo` with a seed and a number of orders reads nothing, runs the text that
-/// it makes from them, and writes one summary line.
+/// why. `audit` does the same with lines that `serve`, `serve sessions` or `serve members` wrote.
+/// `sessions` reads messages to their end and answers each, once and in its session's order.
+/// `serve` answers lines of every kind, those of `quotes` and of `guarded`, what a book and an
+/// account hold, and proposals, of which it charges the best where a clear's own run stops; it has
+/// written the answers to all lines that are complete before it reads on. A line that asks has no
+/// number and changes nothing. `serve sessions` does so with messages of sessions, whose bodies are
+/// such lines, and `serve members` by the rule of who may say what. `propose` is a solver: for each
+/// line that tells a market's book, as `serve` writes it, it writes a line that proposes for these
+/// orders and is judged a bound, before it reads on, and for any other line nothing. `demo` with a
+/// seed and a number of orders reads nothing, runs the text that it makes from them, and writes one
+/// summary line.
 pub fn exchange<S: Source, K: Sink>(
     alloc: Global,
     words: &[String],
@@ -43,19 +45,9 @@ pub fn exchange<S: Source, K: Sink>(
         (source.new ≡ source.old) × (sink.new ≡ sink.old) }
 
     // What the words ask for is kept.
-    ensures keeps { WithRequest (map string_bytes words.now) (λ request. Keeps request (record {
-      left = S.left source.old;
-      still = S.left source.new;
-      written = K.written sink.old;
-      writes = K.written sink.new;
-    }) (record {
-      read = S.faults source.old;
-      reads = S.faults source.new;
-      write = K.faults sink.old;
-      writes = K.faults sink.new;
-      taken = S.taken source.old;
-      takes = S.taken source.new;
-    }) result) }
+    ensures keeps { WithRequest (map string_bytes words.now) (λ request. Keeps request
+        (known_by S.left K.written source.old source.new sink.old sink.new)
+        (counts_by S.faults S.taken K.faults source.old source.new sink.old sink.new) result) }
 
     // When the source was last read nothing had been written, or, by `serve` and `propose`, the
     // answers to the lines that were complete by then. Which read is the last is not known before

@@ -2,9 +2,9 @@
 ghost use Rattle.std.specs.Prelude.{◌≡◌, ◌≢◌, ◌⊎◌, ◌≤◌, ◌<◌, ◌+◌, Err, None, IfOk, IfSome, IsErrOf, OnErr, OnOk, length};
 ghost use Rattle.std.specs.List.{All};
 ghost use Rattle.std.specs.Io.KnownBytes.{Appends};
-ghost use Rattle.port_io.specs.Faults.{Rose, raised_by};
-ghost use Rattle.port_io.specs.Reads.{TakesUpTo};
-ghost use Rattle.port_io.specs.Writes.{AppendsFront};
+ghost use Rattle.byte_streams.specs.Faults.{Rose, raised_by};
+ghost use Rattle.byte_streams.specs.Reads.{TakesUpTo};
+ghost use Rattle.byte_streams.specs.Writes.{AppendsFront};
 ghost use Rattle.journal_check.specs.JournalLines.{lines_of};
 ghost use Rattle.program_words.specs.Requests.{IsRequestWithin};
 ghost use Rattle.exchange_program.specs.Journals.{IsSoundIn, NamesFault};
@@ -15,10 +15,10 @@ use crate::check::{MAX_JOURNAL, report_on};
 use crate::demo::write_demo;
 use crate::mode_lines::ModeLines;
 use crate::status::Status;
+use byte_streams::{Sink, Source, Stop, read_all};
 use exchange_sessions::answer_messages;
 use limits::MAX_BYTES;
 use live_lines::answer_whole;
-use port_io::{Sink, Source, Stop, read_all};
 use program_words::Request;
 use std::alloc::Global;
 

@@ -1,15 +1,15 @@
 //! The answers to the messages of an input.
 ghost use Rattle.std.specs.Prelude.{◌≡◌, ◌≢◌, ◌≤◌, Err, length, OnOk, OnErr, IsErrOf};
 ghost use Rattle.std.specs.Io.KnownBytes.{Appends};
-ghost use Rattle.port_io.specs.Faults.{Rose};
-ghost use Rattle.port_io.specs.Writes.{AppendsFront};
+ghost use Rattle.byte_streams.specs.Faults.{Rose};
+ghost use Rattle.byte_streams.specs.Writes.{AppendsFront};
 ghost use Rattle.exchange_sessions.specs.Answers.{sessions_output};
 ghost use Rattle.limits.specs.declared.TheConstants.{MAX_BYTES};
 
 use crate::run_lines::RunLines;
+use byte_streams::{Sink, Stop};
 use live_lines::answer_whole;
-use port_io::{Sink, Stop};
-use session_lines::SessionLines;
+use session_lines::{AnySession, SessionLines};
 use std::alloc::Global;
 
 /// Answers the messages of an input to one new exchange.
@@ -32,6 +32,7 @@ pub fn answer_messages<K: Sink>(alloc: Global, input: &[u8], sink: &mut K) -> Re
     ensures no_read_fault { result ≢ Err Stop.ReadFault }
     ensures not_too_long { result ≢ Err Stop.TooLong }
 {
-    let messages = SessionLines::new(alloc, RunLines::new(alloc));
+    let lines = AnySession::new(RunLines::new(alloc));
+    let messages = SessionLines::new(alloc, lines);
     answer_whole(alloc, messages, false, input, sink)
 }

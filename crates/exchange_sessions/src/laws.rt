@@ -25,7 +25,9 @@ pub fn sessions_tell_once()
 
 /// Where the rule says who may say what, each message is told once likewise, by the answers to the
 /// bodies of those that are answered First, each by its session. What these moved they moved by the
-/// rule, and each account of a session that is not the operator's is secured.
+/// rule. An account keeps its owner, which is the session that opened it, each session is within its
+/// part, of an account others are told nothing, a closed market stands still, and each account of a
+/// session that is not the operator's is secured.
 pub fn members_tell_once()
     ensures { MembersTellBeside }
 {}

@@ -12,7 +12,7 @@ use Rattle.cash_ledger.proofs.Balances.{balance_of-push}
 use Rattle.command_text.specs.declared.command.Command.TheVariants.{Withdraw}
 use Rattle.exact_num.specs.Fraction.{Fraction}
 use Rattle.frac.specs.Range.{limit as largest}
-use Rattle.table_run.specs.Ending.{Ending, done, unbounded, wide_at, no_unit_left}
+use Rattle.simplex_run.specs.Ending.{Ending, done, unbounded, wide_at, no_unit_left}
 use Rattle.exchange_core.specs.declared.refusal.Refusal.{Refusal}
 use Rattle.exchange_core.specs.ExchangeState.{ExchangeState}
 use Rattle.exchange_core.specs.Held.{markets_of, underlyings_in}

@@ -6,7 +6,7 @@ use Rattle.form.proofs.StateOf.{state-vector_of}
 use Rattle.frac.specs.Range.{limit as largest}
 use Rattle.frac.proofs.ValueOf.{value-fraction_of}
 use Rattle.settlement.specs.declared.position.Position.{Position}
-use Rattle.table_run.specs.Ending.{Ending}
+use Rattle.simplex_run.specs.Ending.{Ending}
 use Rattle.exchange_core.specs.ExchangeState.{ExchangeState}
 use Rattle.guarded_lines.specs.declared.told.ToldMargin.TheVariants as told
 use Rattle.proposal_text.specs.declared.needs.Need.TheVariants as need

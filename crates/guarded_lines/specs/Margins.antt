@@ -10,7 +10,7 @@ use Rattle.order_book.specs.declared.market.MarketInfo.{MarketInfo}
 use Rattle.order_book.specs.Book.{info_in}
 use Rattle.lists.specs.Refusals.{first_of}
 use Rattle.settlement.specs.declared.position.Position.{Position}
-use Rattle.table_run.specs.Ending.{Ending, done, unbounded, wide_at, no_unit_left}
+use Rattle.simplex_run.specs.Ending.{Ending, done, unbounded, wide_at, no_unit_left}
 use Rattle.exchange_core.specs.declared.refusal.Refusal.{Refusal}
 use Rattle.exchange_core.specs.declared.refusal.Refusal.TheVariants.{NoMarket, Settled, NoAccount, TooMany}
 use Rattle.exchange_core.specs.ExchangeState.{ExchangeState}

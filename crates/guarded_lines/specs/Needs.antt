@@ -1,7 +1,7 @@
 -- What the positions of an account demand of its balance.
 use Rattle.std.specs.Prelude.{ℕ, ◌≡◌, List, map, length, None, Result, Ok, Err, unwrap_or, if◌then◌else◌}
 use Rattle.exact_num.specs.Fraction.{Fraction}
-use Rattle.table_run.specs.Ending.{Ending, done, unbounded, wide_at, no_unit_left}
+use Rattle.simplex_run.specs.Ending.{Ending, done, unbounded, wide_at, no_unit_left}
 use Rattle.exchange_core.specs.ExchangeState.{ExchangeState}
 use Rattle.exchange_core.specs.Held.{markets_of}
 use Rattle.proposal_text.specs.declared.needs.Need.{Need}

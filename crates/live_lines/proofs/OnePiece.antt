@@ -2,7 +2,7 @@
 use Rattle.std.proofs.Common.{◌≡◌, ◌≤◌, ℕ, ◌+◌, List, [], ◌++◌, Bool, Option, length, ap, ◌∙◌, subst, sym, inl, inr, arith, append-nil}
 use Rattle.std.proofs.KnownBytes.{Appends-trans}
 use Rattle.std.specs.Io.KnownBytes.{Appends}
-use Rattle.port_io.specs.Writes.{AppendsFront}
+use Rattle.byte_streams.specs.Writes.{AppendsFront}
 use Rattle.command_text.proofs.LineParts.{cut}
 use Rattle.live_lines.specs.Answering.{Answering, IsLastAnswer}
 use Rattle.live_lines.specs.Open.{Open, new_open}

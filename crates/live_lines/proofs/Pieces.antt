@@ -4,7 +4,7 @@ use Rattle.std.proofs.KnownBytes.{Appends-nil, Appends-trans}
 use Rattle.std.proofs.lemmas.List.{take_all, take_rest}
 use Rattle.std.proofs.Math.Seq.{take-add}
 use Rattle.std.specs.Io.KnownBytes.{Appends}
-use Rattle.port_io.specs.Writes.{AppendsFront}
+use Rattle.byte_streams.specs.Writes.{AppendsFront}
 use Rattle.live_lines.specs.Answering.{Answering, AnswersLine}
 use Rattle.live_lines.specs.Open.{Open, line_text}
 use Rattle.live_lines.specs.Taken.{Completes, IsOpenWithin, Stops, Took}

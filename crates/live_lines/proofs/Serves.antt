@@ -4,8 +4,8 @@ use Rattle.std.proofs.KnownBytes.{Appends-nil, Appends-trans, Consumes-kept, Con
 use Rattle.std.specs.Io.KnownBytes.{Appends, Consumes, IsAtEnd, Keeps}
 use Rattle.std.specs.Prelude.{IsSomeAnd}
 use Rattle.std.proofs.lemmas.Option.{IfSome_then}
-use Rattle.port_io.specs.Faults.{Rose, last_count, raised_by}
-use Rattle.port_io.specs.Reads.{LastRead, WasReadAt}
+use Rattle.byte_streams.specs.Faults.{Rose, last_count, raised_by}
+use Rattle.byte_streams.specs.Reads.{LastRead, WasReadAt}
 use Rattle.command_text.specs.Fields.{begins_with_mark}
 use Rattle.command_text.specs.Lines.{mark_size}
 use Rattle.command_text.proofs.LineParts.{cut}
@@ -14,8 +14,8 @@ use Rattle.live_lines.specs.Open.{Open, new_open, unmarked}
 use Rattle.limits.specs.declared.TheConstants.{MAX_BYTES, MAX_LINES}
 use Rattle.live_lines.specs.Serving.{AnsweredAll, AnsweredBefore, AnsweredLines, AnsweredSome, Counts, Ends, IsInputWithin, IsServed, IsServedInTime, Known, OfAll, OfBefore, OfLines, OfSome, TookAll, Wrote, WroteFirst, WroteSome, piece_limit}
 use Rattle.live_lines.specs.Taken.{AreWithin, IsOpenWithin, Took, with_feeds}
-use Rattle.port_io.specs.declared.stop.Stop.{Stop}
-use Rattle.port_io.specs.declared.stop.Stop.TheVariants.{ReadFault, WriteFault, TooLong, Memory}
+use Rattle.byte_streams.specs.declared.stop.Stop.{Stop}
+use Rattle.byte_streams.specs.declared.stop.Stop.TheVariants.{ReadFault, WriteFault, TooLong, Memory}
 use Rattle.live_lines.proofs.Cuts.{cut_lines}
 use Rattle.live_lines.proofs.Fronts.{front_behind, whole_front}
 use Rattle.live_lines.proofs.Outputs.{alone_lines, lines_alone, lines_written, whole_output}

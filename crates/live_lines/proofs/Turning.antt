@@ -1,18 +1,18 @@
 -- One turn, of which also the read is known: how it leaves what is left to be read.
 use Rattle.std.proofs.Common.{◌≡◌, ◌≤◌, ◌⊎◌, ℕ, List, length, take, refl, sym, ap, ◌∙◌, subst, inl, inr, arith, length-take-le, Option, Result, Ok, Err, Bool, true, false}
 use Rattle.std.specs.Io.KnownBytes.{Appends, Consumes, IsAtEnd, Keeps}
-use Rattle.port_io.specs.Faults.{Rose, raised_by}
-use Rattle.port_io.specs.Reads.{GotWithin, ReadCause, Takes, taken_after}
-use Rattle.port_io.specs.Writes.{AppendsFront}
-use Rattle.port_io.specs.declared.source.ReadAnswer.{ReadAnswer}
-use Rattle.port_io.specs.declared.source.ReadAnswer.TheVariants.{Got, End, Failed}
+use Rattle.byte_streams.specs.Faults.{Rose, raised_by}
+use Rattle.byte_streams.specs.Reads.{GotWithin, ReadCause, Takes, taken_after}
+use Rattle.byte_streams.specs.Writes.{AppendsFront}
+use Rattle.byte_streams.specs.declared.source.ReadAnswer.{ReadAnswer}
+use Rattle.byte_streams.specs.declared.source.ReadAnswer.TheVariants.{Got, End, Failed}
 use Rattle.live_lines.specs.Answering.{Answering}
 use Rattle.live_lines.specs.Open.{Open}
 use Rattle.live_lines.specs.Serving.{Counts, Known}
 use Rattle.live_lines.specs.Taken.{Completes, Stops, Took}
 use Rattle.live_lines.specs.Turns.{BeganLast, BeganLines, TurnsBy, TurnsLast, TurnsTo, WroteLast}
-use Rattle.port_io.specs.declared.stop.Stop.{Stop}
-use Rattle.port_io.specs.declared.stop.Stop.TheVariants.{ReadFault, WriteFault, TooLong, Memory}
+use Rattle.byte_streams.specs.declared.stop.Stop.{Stop}
+use Rattle.byte_streams.specs.declared.stop.Stop.TheVariants.{ReadFault, WriteFault, TooLong, Memory}
 
 -- these bytes came and were counted, what they complete is answered and written, and no call failed
 pub record Came {S : Type 0} (Answers : Answering S) (old : S) (line : Open) (new : S) (next : Open) (known : Known) (counts : Counts) : Type 0 where

@@ -1,12 +1,12 @@
 -- What became of the bytes of a piece, and of what a read told.
 use Rattle.std.specs.Prelude.{◌≡◌, ◌≤◌, ◌⊎◌, ℕ, List, [], ◌++◌, length, take, Option, None, Some, Result, Ok, Err, Bool, true, false}
 use Rattle.std.specs.Io.KnownBytes.{Appends}
-use Rattle.port_io.specs.Faults.{Rose}
-use Rattle.port_io.specs.Writes.{AppendsFront}
-use Rattle.port_io.specs.declared.stop.Stop.{Stop}
-use Rattle.port_io.specs.declared.stop.Stop.TheVariants.{ReadFault, WriteFault, TooLong, Memory}
-use Rattle.port_io.specs.declared.source.ReadAnswer.{ReadAnswer}
-use Rattle.port_io.specs.declared.source.ReadAnswer.TheVariants.{Got, End, Failed}
+use Rattle.byte_streams.specs.Faults.{Rose}
+use Rattle.byte_streams.specs.Writes.{AppendsFront}
+use Rattle.byte_streams.specs.declared.stop.Stop.{Stop}
+use Rattle.byte_streams.specs.declared.stop.Stop.TheVariants.{ReadFault, WriteFault, TooLong, Memory}
+use Rattle.byte_streams.specs.declared.source.ReadAnswer.{ReadAnswer}
+use Rattle.byte_streams.specs.declared.source.ReadAnswer.TheVariants.{Got, End, Failed}
 use Rattle.live_lines.specs.Answering.{Answering, AnswersLine, IsLastAnswer}
 use Rattle.live_lines.specs.Open.{Open, line_text}
 use Rattle.live_lines.specs.Taken.{Completes, Stops, Took}

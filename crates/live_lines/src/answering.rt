@@ -1,17 +1,17 @@
 // The answers to the lines that bytes complete.
 ghost use Rattle.std.specs.Prelude.{◌≡◌, ◌≤◌, ◌<◌, ◌++◌, ℕ, List, length, IfErr, IfOk, OnErr, OnOk};
 ghost use Rattle.std.specs.Io.KnownBytes.{Appends};
-ghost use Rattle.port_io.specs.Faults.{Rose};
-ghost use Rattle.port_io.specs.Writes.{AppendsFront};
+ghost use Rattle.byte_streams.specs.Faults.{Rose};
+ghost use Rattle.byte_streams.specs.Writes.{AppendsFront};
 ghost use Rattle.live_lines.specs.Open.{IsOneLine};
 ghost use Rattle.limits.specs.declared.TheConstants.{MAX_LINES};
 ghost use Rattle.live_lines.specs.Turns.{AddsAnswer, Turned};
 
 use crate::answers::LineAnswers;
 use crate::open_line::OpenLine;
+use byte_streams::{Sink, Stop, write_all};
 use limits::MAX_LINES;
 use memchr::memchr;
-use port_io::{Sink, Stop, write_all};
 use std::alloc::{AllocError, Global};
 
 // Replies that are so many bytes, or more, are written.

@@ -1,8 +1,8 @@
 // The lines of an input that comes piece by piece.
 ghost use Rattle.std.specs.Prelude.{◌≡◌, ◌≢◌, ℕ, List, Err, OnErr, OnOk, IsErrOf};
 ghost use Rattle.std.specs.Io.KnownBytes.{Appends};
-ghost use Rattle.port_io.specs.Faults.{Rose};
-ghost use Rattle.port_io.specs.Writes.{AppendsFront};
+ghost use Rattle.byte_streams.specs.Faults.{Rose};
+ghost use Rattle.byte_streams.specs.Writes.{AppendsFront};
 ghost use Rattle.live_lines.specs.Open.{new_open};
 ghost use Rattle.live_lines.specs.Taken.{Completes, IsOpenWithin, Stops, Took};
 ghost use Rattle.live_lines.specs.Turns.{BeganLast, WroteLast};
@@ -10,7 +10,7 @@ ghost use Rattle.live_lines.specs.Turns.{BeganLast, WroteLast};
 use crate::answering::{add_answer, take_line, write_full};
 use crate::answers::LineAnswers;
 use crate::open_line::OpenLine;
-use port_io::{Sink, Stop, write_all};
+use byte_streams::{Sink, Stop, write_all};
 use std::alloc::Global;
 
 /// A way of answering lines, and the line that has not ended yet.

@@ -1,14 +1,14 @@
 // The answers to an input that is there whole.
 ghost use Rattle.std.specs.Prelude.{◌≡◌, ◌≢◌, ◌≤◌, Err, length, IsErrOf, OnErr, OnOk};
 ghost use Rattle.std.specs.Io.KnownBytes.{Appends};
-ghost use Rattle.port_io.specs.Faults.{Rose};
-ghost use Rattle.port_io.specs.Writes.{AppendsFront};
+ghost use Rattle.byte_streams.specs.Faults.{Rose};
+ghost use Rattle.byte_streams.specs.Writes.{AppendsFront};
 ghost use Rattle.limits.specs.declared.TheConstants.{MAX_BYTES};
 ghost use Rattle.live_lines.specs.Output.{output_of};
 
 use crate::answers::LineSteps;
 use crate::live::Live;
-use port_io::{Sink, Stop};
+use byte_streams::{Sink, Stop};
 use std::alloc::Global;
 
 /// Answers all lines of an input, of which none is too long where it is at most as long as a line

@@ -9,8 +9,8 @@ use Rattle.exact_num.specs.Fraction.{Fraction, IsLowest, IsDefined, whole, plain
 use Rattle.exact_num.specs.CommonDenominator.{AreParts}
 use Rattle.exact_num.proofs.Values.{whole_is_lowest}
 use Rattle.exact_num.proofs.Ratios.{dot_part, sign_part, more_parts}
-use Rattle.table_run.specs.Places.{at, fraction_zero}
-use Rattle.table_run.specs.Program.{row}
+use Rattle.simplex_run.specs.Places.{at, fraction_zero}
+use Rattle.simplex_run.specs.Program.{row}
 use Rattle.form.specs.declared.orders.Order.{Order}
 use Rattle.master_program.specs.Master.{quantity_rows, state_row, rows_of, right_sides_of, costs_of, order_cost, plain_master}
 use Rattle.master_program.specs.Laws.{MasterIsProgram, MasterIsBounded}

@@ -14,8 +14,8 @@ use Rattle.exact_num.specs.CommonDenominator.{common_denominator, amount_over, s
 use Rattle.exact_num.proofs.Fractions.{divides, common_positive}
 use Rattle.exact_num.proofs.Ratios.{dot_part, sum_part, neg_part, whole_part, same_part, one_part, sign_part, more_parts, append_parts}
 use Rattle.exact_num.proofs.Tested.{lowest_are_defined}
-use Rattle.table_run.specs.Places.{at, values_at}
-use Rattle.table_run.specs.Program.{column}
+use Rattle.simplex_run.specs.Places.{at, values_at}
+use Rattle.simplex_run.specs.Program.{column}
 use Rattle.form.specs.declared.orders.Side.{Side}
 use Rattle.form.specs.declared.orders.Side.TheVariants.{Buy, Sell}
 use Rattle.form.specs.declared.orders.Order.{Order}

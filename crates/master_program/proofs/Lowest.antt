@@ -6,12 +6,12 @@ use Rattle.std.proofs.lemmas.List.Elements.{All-cons, All-take, All-drop, All-fr
 use Rattle.arithmetic.proofs.Lists.{All-zip_right}
 use Rattle.exact_num.specs.Fraction.{Fraction, IsLowest}
 use Rattle.exact_num.proofs.After.{after_value}
-use Rattle.table_run.specs.Places.{at, fraction_zero}
-use Rattle.table_run.specs.Program.{LinearProgram}
-use Rattle.table_run.specs.Ending.{done}
-use Rattle.table_run.specs.Run.{Optimum, optimum, run}
-use Rattle.table_run.specs.Optimum.{IsOptimum, IsAsSaid}
-use Rattle.table_run.proofs.Endings.{on_answer-done, on_steps-done}
+use Rattle.simplex_run.specs.Places.{at, fraction_zero}
+use Rattle.simplex_run.specs.Program.{LinearProgram}
+use Rattle.simplex_run.specs.Ending.{done}
+use Rattle.simplex_run.specs.Run.{Optimum, optimum, run}
+use Rattle.simplex_run.specs.Optimum.{IsOptimum, IsAsSaid}
+use Rattle.simplex_run.proofs.Endings.{on_answer-done, on_steps-done}
 use Rattle.form.specs.declared.orders.Order.{Order}
 use Rattle.clearing_model.specs.Certificate.{Point}
 use Rattle.master_program.specs.Master.{zero_prices, plain_master, master}

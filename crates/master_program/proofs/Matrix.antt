@@ -7,8 +7,8 @@ use Rattle.arithmetic.specs.Sums.{dot_ℤ}
 use Rattle.exact_num.specs.Fraction.{Fraction, whole, plain_dot, AtMost}
 use Rattle.exact_num.specs.CommonDenominator.{AreParts}
 use Rattle.exact_num.proofs.Ratios.{dot_part, whole_part, at_most_part}
-use Rattle.table_run.specs.Places.{at, values_at, fraction_zero}
-use Rattle.table_run.proofs.Listed.{listed_same}
+use Rattle.simplex_run.specs.Places.{at, values_at, fraction_zero}
+use Rattle.simplex_run.proofs.Listed.{listed_same}
 
 -- the coefficients of rows of whole numbers
 abbrev pub flat : List (List ℤ) → List Fraction

@@ -13,8 +13,8 @@ use Rattle.exact_num.specs.Fraction.{Fraction, IsLowest, IsDefined, whole, plain
 use Rattle.exact_num.specs.CommonDenominator.{common_denominator, amounts_over, IsPart, AreParts}
 use Rattle.exact_num.proofs.Fractions.{divides, common_positive, amount_is_exact}
 use Rattle.exact_num.proofs.Values.{whole_is_lowest}
-use Rattle.table_run.specs.Places.{at, fraction_zero}
-use Rattle.table_run.specs.Program.{row}
+use Rattle.simplex_run.specs.Places.{at, fraction_zero}
+use Rattle.simplex_run.specs.Program.{row}
 use Rattle.clearing_model.specs.Legs.{FilledLeg}
 use Rattle.clearing_model.specs.Tree.{Sign}
 use Rattle.master_program.proofs.Matrix.{flat_count, RowsHold, rows_hold}

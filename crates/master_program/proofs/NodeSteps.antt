@@ -16,8 +16,8 @@ use Rattle.exact_num.specs.Fits.{mul_of, whole_of, after}
 use Rattle.exact_num.proofs.After.{after_value}
 use Rattle.exact_num.proofs.Fractions.{same_from, amount_is_exact}
 use Rattle.exact_num.proofs.Order.{lowest_is_unique}
-use Rattle.table_run.specs.Places.{fraction_zero}
-use Rattle.table_run.specs.Program.{LinearProgram}
+use Rattle.simplex_run.specs.Places.{fraction_zero}
+use Rattle.simplex_run.specs.Program.{LinearProgram}
 use Rattle.exact_num.specs.Steps.{plus_product}
 use Rattle.clearing_model.specs.Tree.{Sign, liability_at}
 use Rattle.exact_num.proofs.LowestRatios.{IsLowestRatio, product_stands, sum_stands, negated_stands, plus_stands, whole_stands}

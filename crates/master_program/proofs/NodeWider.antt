@@ -7,12 +7,12 @@ use Rattle.exact_num.specs.declared.misfit.Wide.{Wide}
 use Rattle.exact_num.specs.Fraction.{Fraction, whole, negated}
 use Rattle.exact_num.specs.Fits.{whole_of}
 use Rattle.exact_num.proofs.GreaterLimits.{Agree, same, both, whole_agrees, add_agrees, mul_agrees}
-use Rattle.table_run.specs.Places.{fraction_zero}
+use Rattle.simplex_run.specs.Places.{fraction_zero}
 use Rattle.exact_num.specs.Tests.{is_above_zero}
-use Rattle.table_run.specs.Ending.{Ending, done, no_unit_left, on_answer, on_steps}
-use Rattle.table_run.specs.Run.{Optimum, run, optimum}
-use Rattle.table_run.proofs.Endings.{IsAlike, on_answer-alike, on_steps-alike}
-use Rattle.table_run.proofs.Wider.{same_with_greater_limit as same_run}
+use Rattle.simplex_run.specs.Ending.{Ending, done, no_unit_left, on_answer, on_steps}
+use Rattle.simplex_run.specs.Run.{Optimum, run, optimum}
+use Rattle.simplex_run.proofs.Endings.{IsAlike, on_answer-alike, on_steps-alike}
+use Rattle.simplex_run.proofs.Wider.{same_with_greater_limit as same_run}
 use Rattle.form.specs.declared.orders.Side.{Side}
 use Rattle.form.specs.declared.orders.Side.TheVariants.{Buy, Sell}
 use Rattle.form.specs.declared.orders.Order.{Order}

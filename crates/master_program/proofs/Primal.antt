@@ -13,8 +13,8 @@ use Rattle.exact_num.specs.CommonDenominator.{common_denominator, amount_over, s
 use Rattle.exact_num.proofs.Fractions.{divides, common_positive, amount_is_exact}
 use Rattle.exact_num.proofs.Ratios.{dot_part, same_part, sign_part, append_parts}
 use Rattle.exact_num.proofs.Tested.{lowest_are_defined}
-use Rattle.table_run.specs.Places.{at}
-use Rattle.table_run.specs.Program.{row}
+use Rattle.simplex_run.specs.Places.{at}
+use Rattle.simplex_run.specs.Program.{row}
 use Rattle.form.specs.declared.orders.Order.{Order}
 use Rattle.form.specs.Vector.{scale_of}
 use Rattle.clearing_model.specs.Clearing.{signed_net, signed_premium}

@@ -8,11 +8,11 @@ use Rattle.arithmetic.proofs.Lists.{All-zip_right}
 use Rattle.exact_num.specs.declared.misfit.Wide.{Wide}
 use Rattle.exact_num.specs.Fraction.{Fraction, IsLowest}
 use Rattle.exact_num.proofs.After.{after_value}
-use Rattle.table_run.specs.Places.{at}
-use Rattle.table_run.specs.Program.{LinearProgram}
-use Rattle.table_run.specs.Run.{run}
-use Rattle.table_run.specs.Optimum.{IsOptimum, IsAsSaid}
-use Rattle.table_run.proofs.Optima.{ends_are_as_said}
+use Rattle.simplex_run.specs.Places.{at}
+use Rattle.simplex_run.specs.Program.{LinearProgram}
+use Rattle.simplex_run.specs.Run.{run}
+use Rattle.simplex_run.specs.Optimum.{IsOptimum, IsAsSaid}
+use Rattle.simplex_run.proofs.Optima.{ends_are_as_said}
 use Rattle.form.specs.declared.orders.Order.{Order}
 use Rattle.form.specs.Vector.{IsState}
 use Rattle.clearing_model.specs.Certificate.{Point}

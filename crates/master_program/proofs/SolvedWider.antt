@@ -1,9 +1,9 @@
 -- A solve without a misfit is the same with each greater limit.
 use Rattle.std.proofs.Common.{ℕ, ◌≤◌, List, refl}
-use Rattle.table_run.specs.Ending.{done}
-use Rattle.table_run.specs.Run.{Optimum, run, optimum}
-use Rattle.table_run.proofs.Endings.{IsAlike, on_answer-alike, on_steps-alike}
-use Rattle.table_run.proofs.Wider.{same_with_greater_limit as same_run}
+use Rattle.simplex_run.specs.Ending.{done}
+use Rattle.simplex_run.specs.Run.{Optimum, run, optimum}
+use Rattle.simplex_run.proofs.Endings.{IsAlike, on_answer-alike, on_steps-alike}
+use Rattle.simplex_run.proofs.Wider.{same_with_greater_limit as same_run}
 use Rattle.form.specs.declared.orders.Order.{Order}
 use Rattle.master_program.specs.Master.{zero_prices, master}
 use Rattle.master_program.specs.Solve.{reading_at, on_optimum, master_run, master_solve, SolvesAreTheSame}

@@ -1,10 +1,10 @@
 -- What a solve of the master program ends with.
 use Rattle.std.proofs.Common.{◌≡◌, ℕ, List, ◌∷◌, All, subst}
 use Rattle.std.specs.Prelude.{Ok}
-use Rattle.table_run.specs.Program.{LinearProgram}
-use Rattle.table_run.specs.Ending.{done}
-use Rattle.table_run.specs.Run.{Optimum, run, optimum}
-use Rattle.table_run.proofs.Endings.{EndsWith, ends_with, on_answer-ends, on_steps-ends}
+use Rattle.simplex_run.specs.Program.{LinearProgram}
+use Rattle.simplex_run.specs.Ending.{done}
+use Rattle.simplex_run.specs.Run.{Optimum, run, optimum}
+use Rattle.simplex_run.proofs.Endings.{EndsWith, ends_with, on_answer-ends, on_steps-ends}
 use Rattle.form.specs.declared.orders.Order.{Order}
 use Rattle.form.specs.Vector.{IsState}
 use Rattle.cert_check.specs.Breakpoints.{later_states}

@@ -10,8 +10,8 @@ use Rattle.exact_num.specs.declared.misfit.Wide.{Wide}
 use Rattle.exact_num.specs.Fraction.{Fraction, whole, negated}
 use Rattle.exact_num.specs.Fits.{sub_of, mul_of, whole_of, after, size_fits}
 use Rattle.exact_num.proofs.WholeNumbers.{mul_whole_is, add_whole_is}
-use Rattle.table_run.specs.Places.{fraction_zero}
-use Rattle.table_run.specs.Program.{LinearProgram}
+use Rattle.simplex_run.specs.Places.{fraction_zero}
+use Rattle.simplex_run.specs.Program.{LinearProgram}
 use Rattle.form.specs.declared.orders.Side.{Side}
 use Rattle.form.specs.declared.orders.Side.TheVariants.{Buy, Sell}
 use Rattle.form.specs.declared.orders.Order.{Order}

@@ -1,7 +1,7 @@
 -- The rows of quantities are rows of zeros with one 1.
 use Rattle.std.proofs.Common.{◌≡◌, ℕ, zero, suc, ◌+◌, List, [], ◌∷◌, ◌++◌, length, map, arith, ℤ, pos, refl, ap, sym, ◌∙◌, subst}
 use Rattle.exact_num.specs.Fraction.{whole}
-use Rattle.table_run.specs.Places.{fraction_zero, unit_row}
+use Rattle.simplex_run.specs.Places.{fraction_zero, unit_row}
 use Rattle.master_program.specs.Master.{quantity_rows}
 use Rattle.master_program.specs.Laws.{unit_rows, QuantityRowsAreUnitRows}
 use Rattle.master_program.proofs.Matrix.{flat}

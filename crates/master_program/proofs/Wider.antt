@@ -5,7 +5,7 @@ use Rattle.exact_num.specs.declared.misfit.Wide.{Wide}
 use Rattle.exact_num.specs.Fraction.{Fraction, negated}
 use Rattle.exact_num.specs.Fits.{after}
 use Rattle.exact_num.proofs.GreaterLimits.{Agree, same, both, whole_agrees, add_agrees, mul_agrees}
-use Rattle.table_run.specs.Places.{at, fraction_zero}
+use Rattle.simplex_run.specs.Places.{at, fraction_zero}
 use Rattle.form.specs.declared.orders.Order.{Order}
 use Rattle.form.specs.Vector.{scale_of}
 use Rattle.exact_num.specs.Steps.{fold_steps, plus_product, less_product}

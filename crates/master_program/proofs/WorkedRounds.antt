@@ -1,7 +1,7 @@
 -- The worked batches, computed from the definitions.
 use Rattle.std.proofs.Common.{refl}
 use Rattle.exact_num.specs.Fits.{operations}
-use Rattle.table_run.specs.Run.{table_run}
+use Rattle.simplex_run.specs.Run.{table_run}
 use Rattle.form.specs.FormOf.{form_of}
 use Rattle.form.specs.BundleOf.{bundle_one, bundle_made}
 use Rattle.form.specs.Payoff.{bundle_of}

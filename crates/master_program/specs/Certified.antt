@@ -3,7 +3,7 @@ use Rattle.std.specs.Prelude.{ℕ, ◌≡◌, List, [], ◌∷◌, ◌++◌, len
 use Rattle.std.specs.List.{All}
 use Rattle.exact_num.specs.Fraction.{Fraction, IsDefined}
 use Rattle.exact_num.specs.CommonDenominator.{common_denominator, amount_over, IsRatio}
-use Rattle.table_run.specs.Optimum.{IsOptimum}
+use Rattle.simplex_run.specs.Optimum.{IsOptimum}
 use Rattle.form.specs.declared.orders.Order.{Order}
 use Rattle.form.specs.Vector.{scale_of}
 use Rattle.clearing_model.specs.Clearing.{signed_net, IsGreatest}

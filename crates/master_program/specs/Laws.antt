@@ -2,9 +2,9 @@
 use Rattle.std.specs.Prelude.{ℕ, zero, suc, ◌+◌, ◌≡◌, ◌≤◌, List, [], ◌++◌, map, Ok}
 use Rattle.std.specs.List.{flat_map}
 use Rattle.exact_num.specs.Fraction.{Fraction, whole}
-use Rattle.table_run.specs.Program.{LinearProgram}
-use Rattle.table_run.specs.Places.{unit_row}
-use Rattle.table_run.specs.Optimum.{IsProgram, IsDirection}
+use Rattle.simplex_run.specs.Program.{LinearProgram}
+use Rattle.simplex_run.specs.Places.{unit_row}
+use Rattle.simplex_run.specs.Optimum.{IsProgram, IsDirection}
 use Rattle.form.specs.declared.orders.Order.{Order}
 use Rattle.master_program.specs.Master.{zero_prices, quantity_rows, plain_master, master}
 use Rattle.master_program.specs.Reading.{Reading, reading_of}

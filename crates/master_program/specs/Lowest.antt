@@ -2,7 +2,7 @@
 use Rattle.std.specs.Prelude.{ℕ, ◌≡◌, List}
 use Rattle.std.specs.List.{All}
 use Rattle.exact_num.specs.Fraction.{Fraction, IsLowest}
-use Rattle.table_run.specs.Ending.{done}
+use Rattle.simplex_run.specs.Ending.{done}
 use Rattle.form.specs.declared.orders.Order.{Order}
 use Rattle.clearing_model.specs.Certificate.{Point}
 use Rattle.master_program.specs.Reading.{Reading}

@@ -5,8 +5,8 @@ use Rattle.std.specs.List.{flat_map}
 use Rattle.exact_num.specs.declared.misfit.Wide.{Wide}
 use Rattle.exact_num.specs.Fraction.{Fraction, whole, negated}
 use Rattle.exact_num.specs.Fits.{sub_of, mul_of, whole_of, after}
-use Rattle.table_run.specs.Places.{fraction_zero}
-use Rattle.table_run.specs.Program.{LinearProgram}
+use Rattle.simplex_run.specs.Places.{fraction_zero}
+use Rattle.simplex_run.specs.Program.{LinearProgram}
 use Rattle.form.specs.declared.orders.Side.{Side}
 use Rattle.form.specs.declared.orders.Side.TheVariants.{Buy, Sell}
 use Rattle.form.specs.declared.orders.Order.{Order}

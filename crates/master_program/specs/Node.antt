@@ -4,7 +4,7 @@
 use Rattle.std.specs.Prelude.{ℕ, zero, suc, ◌+◌, List, [], ◌∷◌, ◌++◌, length, map, replicate, get_or, ℤ, pos, negsuc, neg_ℤ, ◌+ℤ◌, ◌-ℤ◌, ◌*ℤ◌}
 use Rattle.std.specs.List.{flat_map}
 use Rattle.exact_num.specs.Fraction.{whole, reduced}
-use Rattle.table_run.specs.Program.{LinearProgram}
+use Rattle.simplex_run.specs.Program.{LinearProgram}
 use Rattle.form.specs.Vector.{positive_part}
 use Rattle.clearing_model.specs.Legs.{FilledLeg}
 use Rattle.clearing_model.specs.Tree.{Sign, liability_at}

@@ -5,8 +5,8 @@ use Rattle.std.specs.List.{All}
 use Rattle.exact_num.specs.Fraction.{Fraction, IsLowest, IsNotBelowZero}
 use Rattle.exact_num.specs.CommonDenominator.{amount_over}
 use Rattle.exact_num.specs.Laws.{IsWithin}
-use Rattle.table_run.specs.Program.{LinearProgram}
-use Rattle.table_run.specs.Optimum.{IsProgram, IsDirection}
+use Rattle.simplex_run.specs.Program.{LinearProgram}
+use Rattle.simplex_run.specs.Optimum.{IsProgram, IsDirection}
 use Rattle.clearing_model.specs.Legs.{FilledLeg}
 use Rattle.clearing_model.specs.Tree.{Sign}
 use Rattle.master_program.specs.Node.{node_program}

@@ -4,9 +4,9 @@ use Rattle.exact_num.specs.declared.misfit.Wide.{Wide}
 use Rattle.exact_num.specs.Fraction.{Fraction, whole, negated}
 use Rattle.exact_num.specs.CommonDenominator.{amount_over}
 use Rattle.exact_num.specs.Fits.{mul_of, whole_of, after}
-use Rattle.table_run.specs.Places.{fraction_zero}
+use Rattle.simplex_run.specs.Places.{fraction_zero}
 use Rattle.exact_num.specs.Tests.{is_above_zero}
-use Rattle.table_run.specs.Program.{LinearProgram}
+use Rattle.simplex_run.specs.Program.{LinearProgram}
 use Rattle.form.specs.Vector.{positive_part}
 use Rattle.clearing_model.specs.Legs.{FilledLeg}
 use Rattle.sign_tree.specs.Legs.{FractionLeg}

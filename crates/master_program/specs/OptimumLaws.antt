@@ -2,10 +2,10 @@
 use Rattle.std.specs.Prelude.{ℕ, ◌≡◌, List, ◌∷◌, Ok}
 use Rattle.std.specs.List.{zip, All}
 use Rattle.exact_num.specs.Fraction.{Fraction, IsLowest}
-use Rattle.table_run.specs.Program.{LinearProgram}
-use Rattle.table_run.specs.Ending.{done, unbounded}
-use Rattle.table_run.specs.Run.{run, optimum}
-use Rattle.table_run.specs.Optimum.{IsOptimum}
+use Rattle.simplex_run.specs.Program.{LinearProgram}
+use Rattle.simplex_run.specs.Ending.{done, unbounded}
+use Rattle.simplex_run.specs.Run.{run, optimum}
+use Rattle.simplex_run.specs.Optimum.{IsOptimum}
 use Rattle.form.specs.declared.orders.Order.{Order}
 use Rattle.form.specs.Vector.{IsState, scale_of}
 use Rattle.clearing_model.specs.Certificate.{Point, FillsCover, IsFractionMeasure, MeasureProves}

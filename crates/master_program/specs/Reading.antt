@@ -4,7 +4,7 @@ use Rattle.std.specs.List.{zip}
 use Rattle.exact_num.specs.declared.misfit.Wide.{Wide}
 use Rattle.exact_num.specs.Fraction.{Fraction}
 use Rattle.exact_num.specs.Fits.{add_of, whole_of, after}
-use Rattle.table_run.specs.Places.{at, fraction_zero}
+use Rattle.simplex_run.specs.Places.{at, fraction_zero}
 use Rattle.exact_num.specs.Tests.{is_above_zero}
 use Rattle.form.specs.declared.orders.Order.{Order}
 use Rattle.exact_num.specs.Steps.{fold_steps, plus_product}

@@ -6,7 +6,7 @@ use Rattle.form.specs.declared.orders.Order.{Order}
 use Rattle.clearing_model.specs.Written.{WrittenTree}
 use Rattle.master_program.specs.Reading.{Reading}
 use Rattle.master_program.specs.Solve.{master_solve}
-use Rattle.table_run.specs.Ending.{Ending, done, on_answer, HasNoMisfit}
+use Rattle.simplex_run.specs.Ending.{Ending, done, on_answer, HasNoMisfit}
 use Rattle.master_program.specs.Search.{Question, Found, closed, found, stuck, search}
 
 -- ---- the first states

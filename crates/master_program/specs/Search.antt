@@ -4,11 +4,11 @@ use Rattle.std.specs.Prelude.{ℕ, ◌≤◌, ◌≡◌, zero, suc, ◌+◌, ◌
 use Rattle.exact_num.specs.declared.misfit.Wide.{Wide}
 use Rattle.exact_num.specs.Fraction.{Fraction}
 use Rattle.exact_num.specs.Fits.{whole_of, after}
-use Rattle.table_run.specs.Places.{fraction_zero}
+use Rattle.simplex_run.specs.Places.{fraction_zero}
 use Rattle.exact_num.specs.Tests.{is_above_zero}
-use Rattle.table_run.specs.Program.{LinearProgram}
-use Rattle.table_run.specs.Ending.{Ending, done, unbounded, no_unit_left, on_answer, on_steps, HasNoMisfit}
-use Rattle.table_run.specs.Run.{Optimum, run, optimum}
+use Rattle.simplex_run.specs.Program.{LinearProgram}
+use Rattle.simplex_run.specs.Ending.{Ending, done, unbounded, no_unit_left, on_answer, on_steps, HasNoMisfit}
+use Rattle.simplex_run.specs.Run.{Optimum, run, optimum}
 use Rattle.form.specs.declared.orders.Order.{Order}
 use Rattle.form.specs.Vector.{scale_of}
 use Rattle.form.specs.Primitive.{primitive_of}

@@ -1,8 +1,8 @@
 -- The solve of a master program, with units of work: it is built, run, and read off.
 use Rattle.std.specs.Prelude.{ℕ, ◌≡◌, ◌≤◌, List, Result}
 use Rattle.exact_num.specs.declared.misfit.Wide.{Wide}
-use Rattle.table_run.specs.Ending.{Ending, done, on_answer, on_steps, HasNoMisfit}
-use Rattle.table_run.specs.Run.{Optimum, run, optimum}
+use Rattle.simplex_run.specs.Ending.{Ending, done, on_answer, on_steps, HasNoMisfit}
+use Rattle.simplex_run.specs.Run.{Optimum, run, optimum}
 use Rattle.form.specs.declared.orders.Order.{Order}
 use Rattle.master_program.specs.Master.{zero_prices, master}
 use Rattle.master_program.specs.Reading.{Reading, reading_of}

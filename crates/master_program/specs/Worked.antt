@@ -1,13 +1,14 @@
 -- Worked batches: their master programs, and what is read off the optimum of each.
-use Rattle.std.specs.Prelude.{◌≡◌, ℕ, ◌^◌, ◌-◌, List, [], ◌∷◌, ℤ, pos, negsuc, Result, Ok}
+use Rattle.std.specs.Prelude.{◌≡◌, ℕ, List, [], ◌∷◌, ℤ, pos, negsuc, Result, Ok}
+use Rattle.exact_num.specs.Limit.{limit as largest}
 use Rattle.exact_num.specs.declared.misfit.Wide.{Wide}
 use Rattle.exact_num.specs.declared.misfit.Operator.TheVariants.{Add}
 use Rattle.exact_num.specs.Fraction.{Fraction, whole, over}
 use Rattle.exact_num.specs.Fits.{misfit}
-use Rattle.table_run.specs.Program.{LinearProgram}
-use Rattle.table_run.specs.Ending.{done, Ending, wide_at, no_unit_left}
-use Rattle.table_run.specs.Run.{optimum}
-use Rattle.table_run.specs.Worked.{minus, wholes, at_most, program_of, worked, empty_batch, one_option_matched, equal_prices_stay, lower_strike_covers, butterfly_by_two_sells, cover_too_dear, surplus_too_wide}
+use Rattle.simplex_run.specs.Program.{LinearProgram}
+use Rattle.simplex_run.specs.Ending.{done, Ending, wide_at, no_unit_left}
+use Rattle.simplex_run.specs.Run.{optimum}
+use Rattle.simplex_run.specs.Worked.{minus, wholes, at_most, program_of, worked, empty_batch, one_option_matched, equal_prices_stay, lower_strike_covers, butterfly_by_two_sells, cover_too_dear, surplus_too_wide}
 use Rattle.form.specs.declared.orders.Side.{Side}
 use Rattle.form.specs.declared.orders.Side.TheVariants.{Buy, Sell}
 use Rattle.form.specs.declared.legs.Leg.{Leg}
@@ -44,10 +45,10 @@ slope = 0 ∷ 1 ∷ []
 
 -- the program and the reading with 127 bits
 abbrev pub worked_master : List Order → List (List ℕ) → Result LinearProgram Wide
-worked_master orders states = master (2 ^ 127 - 1) (2 ^ 127 - 1) orders states
+worked_master orders states = master largest largest orders states
 
 abbrev pub worked_reading : List Order → List (List ℕ) → (x y reduced : List Fraction) → Fraction → Result Reading Wide
-worked_reading orders states x y reduced value = reading_of (2 ^ 127 - 1) (zero_prices 1) orders states x y reduced value
+worked_reading orders states x y reduced value = reading_of largest (zero_prices 1) orders states x y reduced value
 
 -- ---- no order
 pub record EmptyBatch : Type 0 where
@@ -208,7 +209,7 @@ second_round_reduced = wholes (pos 0 ∷ pos 0 ∷ pos 0 ∷ pos 0 ∷ [])
 pub record SecondRound : Type 0 where
   pub program : worked_master basket basket_states ≡ Ok second_round
   pub optimum : worked second_round ≡ done (optimum second_round_solution second_round_dual second_round_reduced (whole (pos 1))) 4
-  pub reading : reading_of (2 ^ 127 - 1) (zero_prices 2) basket basket_states second_round_solution second_round_dual second_round_reduced (whole (pos 1))
+  pub reading : reading_of largest (zero_prices 2) basket basket_states second_round_solution second_round_dual second_round_reduced (whole (pos 1))
       ≡ Ok (record {
         fills = wholes (pos 1 ∷ pos 1 ∷ pos 1 ∷ []);
         liability = whole (pos 2);
@@ -235,7 +236,7 @@ SurplusTooWide = worked_master large_batch large_batch_states ≡ Ok surplus_too
 
 -- ---- whole solves on one underlying
 abbrev pub worked_solve : ℕ → List Order → List (List ℕ) → Ending Reading
-worked_solve left orders states = master_solve (2 ^ 127 - 1) (2 ^ 127 - 1) left 0 1 orders states
+worked_solve left orders states = master_solve largest largest left 0 1 orders states
 
 pub record WholeSolves : Type 0 where
   pub matched : worked_solve 100 one_option one_option_states

@@ -1,11 +1,12 @@
 -- Worked batches on two underlyings: a call on the sum is bought, and a call on each price is sold.
 -- Their numbers have 127 bits.
-use Rattle.std.specs.Prelude.{◌≡◌, ℕ, ◌^◌, ◌-◌, List, [], ◌∷◌, ◌++◌, ℤ, pos, negsuc, Ok}
+use Rattle.std.specs.Prelude.{◌≡◌, ℕ, List, [], ◌∷◌, ◌++◌, ℤ, pos, negsuc, Ok}
+use Rattle.exact_num.specs.Limit.{limit as largest}
 use Rattle.exact_num.specs.declared.misfit.Operator.TheVariants.{Whole}
 use Rattle.exact_num.specs.Fraction.{Fraction, whole, over}
 use Rattle.exact_num.specs.Fits.{misfit}
-use Rattle.table_run.specs.Program.{LinearProgram}
-use Rattle.table_run.specs.Worked.{Constraint, at_most, program_of, minus, wholes}
+use Rattle.simplex_run.specs.Program.{LinearProgram}
+use Rattle.simplex_run.specs.Worked.{Constraint, at_most, program_of, minus, wholes}
 use Rattle.form.specs.declared.orders.Side.TheVariants.{Buy, Sell}
 use Rattle.form.specs.declared.orders.Order.{Order}
 use Rattle.clearing_model.specs.Legs.{Exposure, Long, Short}
@@ -14,12 +15,12 @@ use Rattle.clearing_model.specs.Written.{PlacedMultiplier, WrittenTree, Ends, Pa
 use Rattle.form.specs.FormOf.{form_of}
 use Rattle.master_program.specs.Worked.{order_for, bundle_order, basket}
 use Rattle.master_program.specs.Rounds.{Cleared, rounds}
-use Rattle.table_run.specs.Ending.{Ending, done, wide_at, no_unit_left}
+use Rattle.simplex_run.specs.Ending.{Ending, done, wide_at, no_unit_left}
 use Rattle.sign_tree.specs.Legs.{FractionLeg}
 use Rattle.master_program.specs.NodeSteps.{node_steps}
 
 abbrev pub worked_rounds : ℕ → List Order → Ending Cleared
-worked_rounds budget orders = rounds (record { payoff_limit = 2 ^ 127 - 1; limit = 2 ^ 127 - 1; budget = budget }) 2 orders 0
+worked_rounds budget orders = rounds (record { payoff_limit = largest; limit = largest; budget = budget }) 2 orders 0
 
 abbrev pub multiplier : ℕ → ℕ → PlacedMultiplier
 multiplier place by = record { place = place; by = whole (pos by) }
@@ -167,7 +168,7 @@ LiabilityBelowZero =
 -- does not fit
 abbrev pub EntryTooWide : Type 0
 EntryTooWide =
-    rounds (record { payoff_limit = 2 ^ 127 - 1; limit = 7; budget = 20000 }) 3
+    rounds (record { payoff_limit = largest; limit = 7; budget = 20000 }) 3
     (order_for Sell (minus 8 ∷ pos 0 ∷ pos 1 ∷ pos 1 ∷ []) 1 1
     ∷ order_for Buy (minus 3 ∷ pos 2 ∷ pos 1 ∷ pos 1 ∷ []) 2 2
     ∷ order_for Sell (minus 9 ∷ minus 1 ∷ pos 1 ∷ pos 1 ∷ []) 3 3
@@ -196,7 +197,7 @@ bundle_legs =
 
 -- their node with the long leg's sign, and the liability 1/2
 abbrev pub BundleNode : Sign → LinearProgram → Type 0
-BundleNode sign program = node_steps (2 ^ 127 - 1) 2 bundle_legs (over (pos 1) 2) (sign ∷ Unsigned ∷ Unsigned ∷ []) ≡ Ok program
+BundleNode sign program = node_steps largest 2 bundle_legs (over (pos 1) 2) (sign ∷ Unsigned ∷ Unsigned ∷ []) ≡ Ok program
 
 abbrev pub with_costs : List Fraction → LinearProgram → LinearProgram
 with_costs costs program = record { variables = program.variables; rows = program.rows; coefficients = program.coefficients; right_sides = program.right_sides; costs = costs }

@@ -2,12 +2,12 @@
 -- verdict.
 use Rattle.std.proofs.Common.{◌≡◌, ℕ, ◌≤◌, sym, ap, ◌∙◌, subst}
 use Rattle.frac.specs.Range.{limit as largest}
-use Rattle.table_run.specs.Ending.{Ending, HasNoMisfit}
+use Rattle.simplex_run.specs.Ending.{Ending, HasNoMisfit}
 use Rattle.form.specs.declared.orders.Batch.{Batch}
-use Rattle.rounds.specs.Answers.{limits_of}
-use Rattle.rounds.specs.Run.{Solution, unjudged_run}
-use Rattle.rounds.proofs.Certified.{then_sums}
-use Rattle.rounds.proofs.Wider.{unjudged_runs_are_the_same}
+use Rattle.constraint_generation.specs.Answers.{limits_of}
+use Rattle.constraint_generation.specs.Run.{Solution, unjudged_run}
+use Rattle.constraint_generation.proofs.Certified.{then_sums}
+use Rattle.constraint_generation.proofs.Wider.{unjudged_runs_are_the_same}
 use Rattle.clearing.specs.Outcome.{judged, run_of}
 use Rattle.narrow_clearing.specs.Passes.{unjudged_in}
 

@@ -1,9 +1,9 @@
 -- In which numbers a batch is cleared.
 use Rattle.std.specs.Prelude.{ℕ}
 use Rattle.form.specs.declared.orders.Batch.{Batch}
-use Rattle.rounds.specs.Answers.{limits_of}
-use Rattle.rounds.specs.Run.{Solution, unjudged_run}
-use Rattle.table_run.specs.Ending.{Ending, HasNoMisfit}
+use Rattle.constraint_generation.specs.Answers.{limits_of}
+use Rattle.constraint_generation.specs.Run.{Solution, unjudged_run}
+use Rattle.simplex_run.specs.Ending.{Ending, HasNoMisfit}
 use Rattle.narrow_clearing.specs.declared.passes.Pass.{Pass}
 use Rattle.narrow_clearing.specs.declared.passes.Pass.TheVariants.{Narrow, Broad}
 

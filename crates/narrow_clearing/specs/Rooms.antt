@@ -1,7 +1,7 @@
 -- What a batch is cleared in by a run in narrow numbers first.
 use Rattle.std.specs.Prelude.{ℕ, ◌≤◌, length, vec_capacity}
 use Rattle.form.specs.declared.orders.Batch.{Batch}
-use Rattle.rounds.specs.Rooms.{IsJointRoom}
+use Rattle.constraint_generation.specs.Rooms.{IsJointRoom}
 use Rattle.clearing.specs.Rooms.{IsClearRoom}
 use Rattle.narrow_clearing.specs.declared.room.FirstRoom.{FirstRoom}
 

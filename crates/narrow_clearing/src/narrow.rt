@@ -13,16 +13,16 @@ ghost use Rattle.clearing.specs.Outcome.{HasEnoughUnits, IsMarked, outcome_of};
 ghost use Rattle.clearing.specs.Rooms.{IsClearRoom};
 ghost use Rattle.narrow_clearing.specs.Passes.{IsPass, unjudged_in};
 ghost use Rattle.narrow_clearing.specs.Rooms.{IsFirstRoom};
-ghost use Rattle.rounds.specs.Rooms.{IsJointRoom};
+ghost use Rattle.constraint_generation.specs.Rooms.{IsJointRoom};
 
 use crate::passes::Pass;
 use crate::room::{FirstRoom, Room};
 use cert_check::Outcome;
 use clearing::ClearRoom;
+use constraint_generation::{JointRoom, widened};
 use exact_num::Exact;
 use form::Batch;
 use frac::Frac128;
-use rounds::{JointRoom, widened};
 use simplex::{Budget, RunStop};
 use std::alloc::{AllocError, Global};
 

@@ -5,10 +5,10 @@ ghost use Rattle.form.specs.Limits.{IsWithinLimits};
 ghost use Rattle.narrow_clearing.specs.Rooms.{IsFirstRoom};
 
 use clearing::ClearRoom;
+use constraint_generation::JointRoom;
 use exact_num::Exact;
 use form::Batch;
 use frac::{Frac64, Frac128};
-use rounds::JointRoom;
 use std::alloc::{AllocError, Global};
 
 /// What a batch is cleared in by a run in N first. Only `new` takes memory. A contract sees it as

@@ -1,10 +1,8 @@
 //! What the solver answers: a proposal in fractions.
 
-use cert_check::{Claim, Cover, Fills, Measure, Points, Weighted};
-use exact_num::Exact;
+use cert_check::{Claim, Fills, Measure, Points, Weighted};
 use form::State;
 use near_programs::fractions::dyadic;
-use near_programs::numbers::two_to;
 use near_programs::points::NearState;
 use near_programs::rounding::{FILL_BITS, WEIGHT_BITS, WholeMeasure, WholePoint};
 use proposal_check::{Proposal, ProposalCover};
@@ -98,7 +96,7 @@ pub struct Solved<'a> {
 pub fn answer_of(
     alloc: Global,
     solved: &Solved,
-    cover: Cover,
+    cover: ProposalCover,
 ) -> Result<Option<Proposal>, AllocError> {
     let Some(claim) = claim_of(solved.liability, solved.surplus) else {
         return Ok(None);
@@ -113,16 +111,7 @@ pub fn answer_of(
     Ok(Some(Proposal {
         fills,
         claim,
-        cover: ProposalCover::Checked(cover),
+        cover,
         measure,
     }))
-}
-
-/// The surplus of what was found, in units of 2^-40, and below 0 where nothing was.
-pub fn surplus_of(found: &Option<Proposal>) -> i128 {
-    let Some(proposal) = found else {
-        return -1;
-    };
-    let (above, below) = proposal.claim.surplus.parts();
-    above.saturating_mul(two_to(FILL_BITS).div_euclid(below.max(1)))
 }

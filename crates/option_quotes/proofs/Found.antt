@@ -1,5 +1,5 @@
 -- The price that a walk finds is the one from which on the order raises the greatest surplus.
-use Rattle.std.proofs.Common.{◌≡◌, ℕ, suc, zero, ◌≤◌, ◌==◌, true, false, if◌then◌else◌, arith, Option, Some, None, refl, ap, sym, subst, ◌∙◌, inl, inr}
+use Rattle.std.proofs.Common.{◌≡◌, ℕ, suc, zero, ◌≤◌, ◌==◌, true, false, if◌then◌else◌, arith, Option, Some, None, refl, sym, subst, ◌∙◌, inl, inr}
 use Rattle.std.proofs.lemmas.Bool.{cases_Bool}
 use Rattle.std.proofs.lemmas.Bool.Decides.{nat_tests}
 use Rattle.form.specs.Limits.{IsWithinLimits}

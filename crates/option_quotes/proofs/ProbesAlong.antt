@@ -5,10 +5,9 @@ use Rattle.form.specs.declared.orders.Order.{Order}
 use Rattle.form.specs.declared.orders.Batch.{Batch}
 use Rattle.cert_check.specs.declared.outcome.Outcome.{Outcome}
 use Rattle.clearing.specs.Outcome.{outcome_of}
-use Rattle.option_quotes.specs.declared.prices.MarketPrices.{MarketPrices}
 use Rattle.option_quotes.specs.declared.prices.SidePrice.{SidePrice}
 use Rattle.option_quotes.specs.declared.prices.SidePrice.TheVariants.{At, Never, Unmarked, Spent}
-use Rattle.option_quotes.specs.Implied.{above_of, above_probes, landed_at, landed_probes, most_walked, next_along, next_better, price_from_best, probes_along, side_price, side_probes, walked_all, walked_from, walked_probes}
+use Rattle.option_quotes.specs.Implied.{above_of, above_probes, landed_at, landed_probes, most_walked, next_along, next_better, price_from_best, probes_along, side_price, walked_all, walked_from, walked_probes}
 use Rattle.option_quotes.specs.Probes.{Probe, best_price, first_unmarked, is_optimal, is_raised, probe_at, probe_outcome, worst_price}
 use Rattle.option_quotes.specs.Shown.{EndsAsProbed, EndsBy}
 

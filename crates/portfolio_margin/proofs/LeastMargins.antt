@@ -24,8 +24,8 @@ use Rattle.master_program.specs.Search.{closed, found, search}
 use Rattle.search_laws.specs.Search.{IsAsked}
 use Rattle.search_laws.proofs.Searching.{search_closes, search_finds, closed_lowest}
 use Rattle.settlement.specs.declared.position.Position.{Position}
-use Rattle.table_run.specs.Ending.{done}
-use Rattle.table_run.proofs.Endings.{EndsWith, on_steps-ends}
+use Rattle.simplex_run.specs.Ending.{done}
+use Rattle.simplex_run.proofs.Endings.{EndsWith, on_steps-ends}
 use Rattle.portfolio_margin.specs.declared.least_margin.LeastMargin.{LeastMargin}
 use Rattle.portfolio_margin.specs.declared.least_margin.LeastMargin.TheVariants.{Least, Unbounded, Wide, Budget}
 use Rattle.portfolio_margin.specs.Owed.{Covers, EqualsAt, IsDenominator, IsLeast, IsUnbounded, fill_of, fills_of, owed_over}

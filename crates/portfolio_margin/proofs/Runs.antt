@@ -10,8 +10,8 @@ use Rattle.master_program.specs.Search.{Found, closed, found, search}
 use Rattle.search_laws.specs.Search.{IsAsked, IsCounted}
 use Rattle.search_laws.proofs.Searching.{search_ends}
 use Rattle.search_laws.proofs.Units.{search_is_counted}
-use Rattle.table_run.specs.Ending.{Ending, done, unbounded, wide_at, no_unit_left, on_answer, on_steps}
-use Rattle.table_run.proofs.Endings.{EndsWith}
+use Rattle.simplex_run.specs.Ending.{Ending, done, unbounded, wide_at, no_unit_left, on_answer, on_steps}
+use Rattle.simplex_run.proofs.Endings.{EndsWith}
 use Rattle.portfolio_margin.specs.Run.{MarginQuestion, Margin, least, endless, ends, goes, at_state, on_found, on_turn, question_of, turns_from, wanted_at}
 
 -- a fact W of each liability with its state, which the searches keep, and a fact Q of the end that

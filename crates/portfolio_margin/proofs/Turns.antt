@@ -20,8 +20,8 @@ use Rattle.settlement.specs.declared.position.Position.{Position}
 use Rattle.settlement.specs.Positions.{IsHeldPosition}
 use Rattle.simplex.specs.declared.stop.Stop.{Stop}
 use Rattle.simplex.specs.declared.stop.Stop.TheVariants.{Wide as WideStop, Budget as BudgetStop, Memory}
-use Rattle.table_run.specs.Ending.{Ending, unbounded, wide_at, on_answer, on_steps}
-use Rattle.table_run.proofs.Endings.{EndsWith}
+use Rattle.simplex_run.specs.Ending.{Ending, unbounded, wide_at, on_answer, on_steps}
+use Rattle.simplex_run.proofs.Endings.{EndsWith}
 use Rattle.portfolio_margin.specs.declared.least_margin.LeastMargin.{LeastMargin}
 use Rattle.portfolio_margin.specs.declared.least_margin.LeastMargin.TheVariants.{Least, Unbounded, Wide, Budget}
 use Rattle.portfolio_margin.specs.declared.turn.Turn.TheVariants.{Ends, Goes}

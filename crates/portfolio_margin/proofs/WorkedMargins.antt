@@ -2,7 +2,7 @@
 use Rattle.std.proofs.Common.{refl}
 use Rattle.exact_num.specs.Fits.{operations}
 use Rattle.frac.specs.ValueOf.{value_of}
-use Rattle.table_run.specs.Run.{table_run}
+use Rattle.simplex_run.specs.Run.{table_run}
 use Rattle.form.specs.FormOf.{form_of}
 use Rattle.form.specs.BundleOf.{bundle_one, bundle_made}
 use Rattle.form.specs.Payoff.{bundle_of}

@@ -10,7 +10,7 @@ use Rattle.clearing_model.specs.Written.{WrittenTree}
 use Rattle.sign_tree.specs.Read.{node_of, placed_of}
 use Rattle.simplex.specs.declared.stop.Stop.{Stop}
 use Rattle.simplex.specs.declared.stop.Stop.TheVariants.{Wide as WideStop, Budget as BudgetStop, Memory}
-use Rattle.table_run.specs.Ending.{Ending, done, wide_at, no_unit_left}
+use Rattle.simplex_run.specs.Ending.{Ending, done, wide_at, no_unit_left}
 use Rattle.pricing_oracle.specs.Answers.{IsTreeAs}
 use Rattle.settlement.specs.declared.position.Position.{Position}
 use Rattle.portfolio_margin.specs.declared.least_margin.LeastMargin.{LeastMargin}

@@ -7,7 +7,7 @@ use Rattle.clearing_model.specs.Certificate.{ClosesAsWritten}
 use Rattle.clearing_model.specs.Written.{WrittenTree, nodes_of, multipliers_of}
 use Rattle.settlement.specs.declared.position.Position.{Position}
 use Rattle.settlement.specs.Positions.{gain_at}
-use Rattle.table_run.specs.Ending.{done, unbounded}
+use Rattle.simplex_run.specs.Ending.{done, unbounded}
 use Rattle.portfolio_margin.specs.declared.needs.Needed.TheVariants.{Amount}
 use Rattle.portfolio_margin.specs.Owed.{Covers, IsLeast, IsUnbounded, fills_of}
 use Rattle.portfolio_margin.specs.Run.{asked_for, least, endless, margin_run, orders_of}

@@ -14,7 +14,7 @@ use Rattle.master_program.specs.Master.{zero_prices}
 use Rattle.master_program.specs.Search.{Question, Found, closed, found, search, stuck}
 use Rattle.settlement.specs.declared.position.Position.{Position}
 use Rattle.settlement.specs.Premium.{rounded_up}
-use Rattle.table_run.specs.Ending.{Ending, done, on_answer, on_steps}
+use Rattle.simplex_run.specs.Ending.{Ending, done, on_answer, on_steps}
 use Rattle.portfolio_margin.specs.Owed.{fill_of, fills_of}
 
 -- ---- the positions as a batch whose net is what they owe

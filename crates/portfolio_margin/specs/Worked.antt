@@ -1,5 +1,6 @@
 -- Worked margins, and the need of two of them.
-use Rattle.std.specs.Prelude.{◌≡◌, ℕ, ◌^◌, ◌-◌, List, [], ◌∷◌, ℤ, pos, negsuc}
+use Rattle.std.specs.Prelude.{◌≡◌, ℕ, List, [], ◌∷◌, ℤ, pos, negsuc}
+use Rattle.exact_num.specs.Limit.{limit as largest}
 use Rattle.exact_num.specs.Fraction.{Fraction, whole, over}
 use Rattle.frac.specs.ValueOf.{value_of}
 use Rattle.form.specs.declared.bundles.Bundle.{Bundle}
@@ -9,7 +10,7 @@ use Rattle.form.specs.FormOf.{form_of}
 use Rattle.form.specs.BundleOf.{bundle_one, bundle_made}
 use Rattle.form.specs.StateOf.{state_of}
 use Rattle.clearing_model.specs.Written.{WrittenTree, Ends, Parts}
-use Rattle.table_run.specs.Ending.{Ending, done, no_unit_left}
+use Rattle.simplex_run.specs.Ending.{Ending, done, no_unit_left}
 use Rattle.settlement.specs.declared.position.Position.{Position}
 use Rattle.portfolio_margin.specs.declared.least_margin.LeastMargin.TheVariants.{Least, Unbounded}
 use Rattle.portfolio_margin.specs.declared.needs.Needed.TheVariants.{Amount, Unbounded as NoBound, Sum}
@@ -23,7 +24,7 @@ abbrev pub option : List ℤ → Bundle
 option v = bundle_one (form_of v)
 
 abbrev pub run_on : ℕ → ℕ → List Position → Ending Margin
-run_on budget n positions = margin_run (asked_for (2 ^ 127 - 1) budget n positions)
+run_on budget n positions = margin_run (asked_for largest budget n positions)
 
 -- a put with strike 10 is sold: it costs at most 10, where the price is 0
 abbrev pub sold_put : List Position
@@ -63,7 +64,7 @@ abbrev pub no_bound : ℕ → Counted
 no_bound positions = (Unbounded (state_of (0 ∷ 1 ∷ [])), positions)
 
 abbrev pub largest_amount : ℕ
-largest_amount = 2 ^ 127 - 1
+largest_amount = largest
 
 -- the largest amount, and one more; a margin without a bound comes before a sum that does not fit
 pub record NeedsByHand : Type 0 where

@@ -10,13 +10,13 @@ use Rattle.sign_tree.specs.Read.{sign_of}
 use Rattle.sign_tree.proofs.Sides.{minus_signs}
 use Rattle.simplex.specs.declared.stop.RunStop.{RunStop}
 use Rattle.simplex.specs.declared.stop.RunStop.TheVariants.{Wide, Budget}
-use Rattle.table_run.specs.Ending.{Ending, done, on_answer}
+use Rattle.simplex_run.specs.Ending.{Ending, done, on_answer}
 use Rattle.master_program.specs.Search.{Question, splits, node_end, Found, on_node, on_side, search, search_from, legs_in}
 use Rattle.master_program.specs.NodeSteps.{legs_over}
 use Rattle.search_laws.specs.Search.{IsAsked}
 use Rattle.search_laws.proofs.Nodes.{NodeShows, node_says, own, own_over}
 use Rattle.search_laws.proofs.Trees.{split_is_long}
-use Rattle.table_run.proofs.Endings.{EndsWith}
+use Rattle.simplex_run.proofs.Endings.{EndsWith}
 use Rattle.master_program.proofs.NodeWider.{joined, minus_side}
 use Rattle.pricing_oracle.specs.declared.node.Shown.TheVariants.{Leaf, Violated, Splits}
 use Rattle.pricing_oracle.specs.Searches.{WrittenParts, after_split, with_tree, HasShown, HasSearched, one_if_unsigned, unsigned_in}

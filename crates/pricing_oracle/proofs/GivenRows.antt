@@ -5,9 +5,9 @@ use Rattle.exact_num.specs.declared.misfit.Wide.{Wide}
 use Rattle.exact_num.specs.Fraction.{Fraction, whole}
 use Rattle.exact_num.specs.Fits.{after, whole_of}
 use Rattle.master_program.specs.Master.{map_steps}
-use Rattle.table_run.specs.Places.{fraction_zero}
-use Rattle.table_run.specs.Program.{LinearProgram}
-use Rattle.compact_table.specs.Programs.{with_row}
+use Rattle.simplex_run.specs.Places.{fraction_zero}
+use Rattle.simplex_run.specs.Program.{LinearProgram}
+use Rattle.fraction_tableau.specs.Programs.{with_row}
 use Rattle.sign_tree.specs.Legs.{FractionLeg}
 use Rattle.sign_tree.specs.Read.{sign_of}
 use Rattle.simplex.specs.Spaces.{given}

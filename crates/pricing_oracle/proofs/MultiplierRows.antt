@@ -4,7 +4,7 @@ use Rattle.std.specs.Prelude.{if◌then◌else◌}
 use Rattle.std.proofs.lemmas.List.{length-append}
 use Rattle.exact_num.specs.Fraction.{Fraction}
 use Rattle.exact_num.specs.Tests.{is_above_zero}
-use Rattle.table_run.specs.Places.{at, fraction_zero}
+use Rattle.simplex_run.specs.Places.{at, fraction_zero}
 use Rattle.clearing_model.specs.Written.{PlacedMultiplier}
 use Rattle.master_program.specs.Roles.{Role, Idle, Covering, Free, Above, Below, entries, leg_multipliers, placed_from, with_multiplier}
 use Rattle.master_program.specs.Node.{if_covering, signed_of, with_sign}

@@ -14,12 +14,12 @@ use Rattle.exact_num.specs.Tests.{is_above_zero}
 use Rattle.exact_num.specs.CommonDenominator.{common_denominator, amount_over, amounts_over, AreParts}
 use Rattle.exact_num.proofs.Fractions.{divides, common_positive}
 use Rattle.exact_num.proofs.Tested.{lowest_are_defined}
-use Rattle.table_run.specs.Places.{fraction_zero}
-use Rattle.table_run.specs.Program.{LinearProgram}
-use Rattle.table_run.specs.Ending.{Ending, done, unbounded, wide_at, no_unit_left, on_answer, on_steps}
-use Rattle.table_run.specs.Run.{Optimum, run, optimum}
-use Rattle.table_run.specs.Optimum.{IsOptimum}
-use Rattle.table_run.specs.Units.{units_of}
+use Rattle.simplex_run.specs.Places.{fraction_zero}
+use Rattle.simplex_run.specs.Program.{LinearProgram}
+use Rattle.simplex_run.specs.Ending.{Ending, done, unbounded, wide_at, no_unit_left, on_answer, on_steps}
+use Rattle.simplex_run.specs.Run.{Optimum, run, optimum}
+use Rattle.simplex_run.specs.Optimum.{IsOptimum}
+use Rattle.simplex_run.specs.Units.{units_of}
 use Rattle.form.specs.Primitive.{IsDirection}
 use Rattle.clearing_model.specs.Tree.{Sign}
 use Rattle.simplex.specs.declared.stop.RunStop.{RunStop}
@@ -36,7 +36,7 @@ use Rattle.master_program.proofs.NodeSteps.{steps_give_node}
 use Rattle.search_laws.specs.Search.{IsAsked}
 use Rattle.search_laws.proofs.Nodes.{NodeShows, legs_stand, node_says, own, own_over, program_over}
 use Rattle.search_laws.proofs.States.{positive_node_has_state}
-use Rattle.table_run.proofs.Endings.{EndsWith}
+use Rattle.simplex_run.proofs.Endings.{EndsWith}
 use Rattle.clearing_model.specs.Written.{PlacedMultiplier}
 use Rattle.sign_tree.specs.declared.trees.Multiplier.{Multiplier}
 use Rattle.sign_tree.specs.Read.{placed_of}

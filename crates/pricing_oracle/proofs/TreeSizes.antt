@@ -5,7 +5,7 @@ use Rattle.std.proofs.lemmas.List.{length-append, length-map}
 use Rattle.clearing_model.specs.Tree.{Sign}
 use Rattle.clearing_model.specs.Written.{PlacedMultiplier, WrittenTree, nodes_of, multipliers_of}
 use Rattle.sign_tree.specs.Read.{node_of, placed_of}
-use Rattle.table_run.specs.Ending.{done}
+use Rattle.simplex_run.specs.Ending.{done}
 use Rattle.master_program.specs.Search.{Question, leaf, splits, closed, node_end, search_from}
 use Rattle.search_laws.specs.Search.{IsAsked}
 use Rattle.search_laws.specs.Sizes.{IsNodePaid, IsPaid}

@@ -13,7 +13,7 @@ use Rattle.simplex.specs.Stops.{stop_of}
 use Rattle.simplex.specs.declared.stop.RunStop.{RunStop}
 use Rattle.simplex.specs.declared.stop.Stop.{Stop}
 use Rattle.simplex.specs.declared.stop.Stop.TheVariants.{Wide, Budget, Memory}
-use Rattle.table_run.specs.Ending.{Ending, done, wide_at, no_unit_left}
+use Rattle.simplex_run.specs.Ending.{Ending, done, wide_at, no_unit_left}
 use Rattle.master_program.specs.Search.{Question, Found, closed, found}
 use Rattle.search_laws.specs.Search.{IsFound}
 use Rattle.pricing_oracle.specs.declared.found.Found.{Found as Answer}

@@ -1,7 +1,7 @@
 -- The rows of a node whose dual values are the multipliers of its legs, one leg after another.
 use Rattle.std.specs.Prelude.{ℕ, ◌+◌, ◌<◌, List}
 use Rattle.exact_num.specs.Fraction.{Fraction}
-use Rattle.table_run.specs.Places.{at, fraction_zero}
+use Rattle.simplex_run.specs.Places.{at, fraction_zero}
 use Rattle.master_program.specs.Roles.{Role, Idle, Covering, Free, Above, Below}
 use Rattle.pricing_oracle.specs.declared.reading.NextRows.{NextRows}
 

@@ -10,7 +10,7 @@ use Rattle.sign_tree.specs.Read.{node_of, placed_of}
 use Rattle.sign_tree.specs.declared.trees.SignTree.{SignTree}
 use Rattle.simplex.specs.declared.stop.RunStop.{RunStop}
 use Rattle.simplex.specs.declared.stop.RunStop.TheVariants.{Wide, Budget}
-use Rattle.table_run.specs.Ending.{Ending, done, wide_at, no_unit_left, on_answer, on_steps}
+use Rattle.simplex_run.specs.Ending.{Ending, done, wide_at, no_unit_left, on_answer, on_steps}
 use Rattle.master_program.specs.Roles.{NodeLeg}
 use Rattle.master_program.specs.Node.{covers_of, signed_of}
 use Rattle.master_program.specs.NodeSteps.{counted_node}

@@ -6,7 +6,7 @@ ghost use Rattle.sign_tree.specs.Left.{leg_as};
 ghost use Rattle.sign_tree.specs.Read.{sign_of};
 ghost use Rattle.master_program.specs.Roles.{values};
 ghost use Rattle.master_program.specs.NodeSteps.{add_all_earned, add_earned, cover_cost_steps, covering_legs, leg_fill_steps, state_cost_steps};
-ghost use Rattle.table_run.specs.Places.{fraction_zero};
+ghost use Rattle.simplex_run.specs.Places.{fraction_zero};
 ghost use Rattle.pricing_oracle.specs.Filled.{HasFilled};
 ghost use Rattle.pricing_oracle.specs.Programs.{costs_steps};
 ghost use Rattle.pricing_oracle.specs.Nodes.{MayBeAsked, add_earned_by, legs_asked, role_leg_as};

@@ -8,7 +8,7 @@ ghost use Rattle.form.specs.Payoff.{IsOnCount};
 ghost use Rattle.form.specs.States.{vector_of};
 ghost use Rattle.form.specs.Vector.{scale_of};
 ghost use Rattle.master_program.specs.Search.{add_filled, add_owed, excess_of};
-ghost use Rattle.table_run.specs.Places.{fraction_zero};
+ghost use Rattle.simplex_run.specs.Places.{fraction_zero};
 ghost use Rattle.pricing_oracle.specs.Nodes.{MayBeAsked};
 
 use crate::legs::SearchQuestion;

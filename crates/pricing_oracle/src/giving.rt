@@ -2,12 +2,12 @@
 ghost use Rattle.std.specs.Prelude.{◌≡◌, ◌≤◌, ◌+◌, Ok, length, map, pos, replicate, unsigned_abs, vec_capacity};
 ghost use Rattle.exact_num.specs.Fits.{after};
 ghost use Rattle.exact_num.specs.Fraction.{whole};
-ghost use Rattle.compact_table.specs.Programs.{with_row};
+ghost use Rattle.fraction_tableau.specs.Programs.{with_row};
 ghost use Rattle.sign_tree.specs.Read.{sign_of};
 ghost use Rattle.simplex.specs.Spaces.{given, program_given};
 ghost use Rattle.master_program.specs.Node.{covers_of, minus_units, signed_of, size_row};
 ghost use Rattle.master_program.specs.NodeSteps.{counted_node, cover_rows_steps, node_steps, signed_rows_steps};
-ghost use Rattle.table_run.specs.Places.{fraction_zero};
+ghost use Rattle.simplex_run.specs.Places.{fraction_zero};
 ghost use Rattle.pricing_oracle.specs.Filled.{HasMade};
 ghost use Rattle.pricing_oracle.specs.Nodes.{MayBeAsked, legs_asked};
 ghost use Rattle.pricing_oracle.specs.Programs.{HasGiven, HasSameSize, IsOpen};

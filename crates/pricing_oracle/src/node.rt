@@ -8,7 +8,7 @@ ghost use Rattle.form.specs.Primitive.{IsDirection};
 ghost use Rattle.sign_tree.specs.Read.{sign_of};
 ghost use Rattle.simplex.specs.Spaces.{IsFound, x_of, y_of};
 ghost use Rattle.master_program.specs.Search.{leaf_of, node_end};
-ghost use Rattle.table_run.specs.Ending.{unbounded};
+ghost use Rattle.simplex_run.specs.Ending.{unbounded};
 ghost use Rattle.pricing_oracle.specs.Nodes.{MayBeAsked, legs_asked};
 ghost use Rattle.pricing_oracle.specs.Rooms.{HasNodeRoom, HasRoom, KeepsNodeRoom, KeepsRoom};
 ghost use Rattle.pricing_oracle.specs.Searches.{HasRows, HasShown, WrittenParts, asked_within, node_of_asked, parts_of, state_end, with_tree};

@@ -8,7 +8,7 @@ ghost use Rattle.sign_tree.specs.Read.{sign_of};
 ghost use Rattle.master_program.specs.Node.{covers_of, size_row};
 ghost use Rattle.master_program.specs.Roles.{entries};
 ghost use Rattle.master_program.specs.NodeSteps.{counted_node, negated_of};
-ghost use Rattle.table_run.specs.Places.{fraction_zero};
+ghost use Rattle.simplex_run.specs.Places.{fraction_zero};
 ghost use Rattle.pricing_oracle.specs.Filled.{HasFilled};
 ghost use Rattle.pricing_oracle.specs.Nodes.{MayBeAsked, legs_asked, role_as};
 ghost use Rattle.pricing_oracle.specs.Programs.{signed_entries, unit_at};

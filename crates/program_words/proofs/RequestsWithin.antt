@@ -34,10 +34,11 @@ of_one false false false false false false true h = tt
 of_one false false false false false false false true = tt
 of_one false false false false false false false false = tt
 
-of_two : (a b : Bool) → IfSome (if a then (if b then Some (Serve served.Sessions) else None) else None) IsRequestWithin
-of_two true true = tt
-of_two true false = tt
-of_two false b = tt
+of_two : (a b c : Bool) → IfSome (if a then (if b then Some (Serve served.Sessions) else if c then Some (Serve served.Members) else None) else None) IsRequestWithin
+of_two true true c = tt
+of_two true false true = tt
+of_two true false false = tt
+of_two false b c = tt
 
 of_three : (test : Bool) (seed count : Option ℕ) → IfSome count (λ n. (1 ≤ n) × (n ≤ MAX_DEMO_ORDERS)) → IfSome (if test then demo_of seed count else None) IsRequestWithin
 of_three false seed count within = tt
@@ -48,6 +49,6 @@ of_three true (Some seed) (Some count) within = within
 pub requests_are_within : (words : List (List ℕ)) → IfSome (request_of words) IsRequestWithin
 requests_are_within [] = tt
 requests_are_within (a ∷ []) = of_one (bytes_eq a (codes "run")) (bytes_eq a (codes "quotes")) (bytes_eq a (codes "guarded")) (bytes_eq a (codes "check")) (bytes_eq a (codes "audit")) (bytes_eq a (codes "sessions")) (bytes_eq a (codes "serve")) (bytes_eq a (codes "propose"))
-requests_are_within (a ∷ b ∷ []) = of_two (bytes_eq a (codes "serve")) (bytes_eq b (codes "sessions"))
+requests_are_within (a ∷ b ∷ []) = of_two (bytes_eq a (codes "serve")) (bytes_eq b (codes "sessions")) (bytes_eq b (codes "members"))
 requests_are_within (a ∷ b ∷ c ∷ []) = of_three (bytes_eq a (codes "demo")) (natural_in 0 MAX_SEED b) (natural_in 1 MAX_DEMO_ORDERS c) (natural_within 1 MAX_DEMO_ORDERS c)
 requests_are_within (a ∷ b ∷ c ∷ d ∷ more) = tt

@@ -32,7 +32,10 @@ one_word word =
     else None
 
 abbrev pub served_of : List ℕ → Option Request
-served_of what = if bytes_eq what (codes "sessions") then Some (Serve served.Sessions) else None
+served_of what =
+    if bytes_eq what (codes "sessions") then Some (Serve served.Sessions)
+    else if bytes_eq what (codes "members") then Some (Serve served.Members)
+    else None
 
 abbrev pub two_words : List ℕ → List ℕ → Option Request
 two_words word what = if bytes_eq word (codes "serve") then served_of what else None

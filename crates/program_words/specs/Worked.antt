@@ -18,6 +18,7 @@ pub record FormsByHand : Type 0 where
   pub sessions : request_of (codes "sessions" ∷ []) ≡ Some Sessions
   pub serve : request_of (codes "serve" ∷ []) ≡ Some (Serve served.Lines)
   pub serve_sessions : request_of (codes "serve" ∷ codes "sessions" ∷ []) ≡ Some (Serve served.Sessions)
+  pub serve_members : request_of (codes "serve" ∷ codes "members" ∷ []) ≡ Some (Serve served.Members)
   pub propose : request_of (codes "propose" ∷ []) ≡ Some Propose
   pub least : request_of (demo_words (codes "0") (codes "1")) ≡ Some (Demo 0 1)
   pub greatest : request_of (demo_words (codes "4294967295") (codes "10000")) ≡ Some (Demo 4294967295 10000)
@@ -29,6 +30,7 @@ pub record OthersByHand : Type 0 where
   pub quotes_twice : request_of (codes "quotes" ∷ codes "quotes" ∷ []) ≡ None
   pub guarded_in_capitals : request_of (codes "GUARDED" ∷ []) ≡ None
   pub serve_with_word : request_of (codes "serve" ∷ codes "serve" ∷ []) ≡ None
+  pub members_alone : request_of (codes "members" ∷ []) ≡ None
   pub propose_with_word : request_of (codes "propose" ∷ codes "sessions" ∷ []) ≡ None
   pub sessions_with_word : request_of (codes "sessions" ∷ codes "serve" ∷ []) ≡ None
   pub run_with_number : request_of (codes "run" ∷ codes "1" ∷ []) ≡ None

@@ -30,6 +30,8 @@ pub enum Served {
     Lines,
     /// Messages of many sessions, whose bodies are such lines.
     Sessions,
+    /// Such messages, by the rule of who may say what.
+    Members,
 }
 
 /// What wrote the lines that are reported on.

@@ -51,8 +51,14 @@ fn one_word(word: &str) -> Option<Request>
 fn two_words(word: &str, what: &str) -> Option<Request>
     ensures { result ≡ two_words word.now what.now }
 {
-    if word == "serve" && what == "sessions" {
+    if word != "serve" {
+        return None;
+    }
+    if what == "sessions" {
         return Some(Request::Serve(Served::Sessions));
+    }
+    if what == "members" {
+        return Some(Request::Serve(Served::Members));
     }
     None
 }
@@ -99,8 +105,8 @@ fn are_positional(words: &[String]) -> bool
 }
 
 /// What the words after the program's name ask for: `run`, `quotes`, `guarded`, `check`, `audit`,
-/// `sessions`, `serve`, `serve sessions`, `propose`, or `demo` with a seed and a number of orders,
-/// each of which is `0` or digits that do not begin with 0.
+/// `sessions`, `serve`, `serve sessions`, `serve members`, `propose`, or `demo` with a seed and a
+/// number of orders, each of which is `0` or digits that do not begin with 0.
 ///
 /// Usage where they have none of these forms, and Memory for want of memory alone.
 pub fn request(alloc: Global, words: &[String]) -> Result<Request, WordsFault>

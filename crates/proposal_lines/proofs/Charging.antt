@@ -1,6 +1,6 @@
 -- What a clear charges.
 use Rattle.std.proofs.Common.{◌≡◌, ℕ, ◌+◌, map, [], true, Option, Some, None, Result, Ok, Err, refl, sym, ap, ◌∙◌, subst}
-use Rattle.std.specs.Option.{option_map, option_map_or}
+use Rattle.std.specs.Option.{ok_or, option_map, option_map_or}
 use Rattle.proposal_check.specs.Proposals.{proposal_bound}
 use Rattle.cert_check.specs.declared.outcome.Outcome.{Outcome}
 use Rattle.proposal_check.specs.declared.covers.Unproved.{Unproved as Reason}
@@ -30,7 +30,7 @@ use Rattle.proposal_lines.specs.Proposed.{IsJudged, judged_effect, kept_by, offe
 use Rattle.proposal_lines.specs.Proved.{AreProvedIn}
 use Rattle.proposal_lines.specs.declared.proposed.Proposed.{Proposed}
 use Rattle.proposal_lines.specs.declared.replies.ProposingReply.TheVariants.{Plain, Told}
-use Rattle.proposal_lines.proofs.Clearing.{batch_proves}
+use Rattle.proposal_lines.proofs.Clearing as clearing
 use Rattle.proposal_lines.proofs.Kept.{without_proved}
 use Rattle.proposal_lines.proofs.Moving.{after_batch_proved, entries_moved}
 use Rattle.proposal_lines.proofs.Sound.{offer_proved}
@@ -42,20 +42,29 @@ batch_found state market batch e = by (market_of state.book market) e
     by None e = cc
     by (Some m) e = cc
 
--- what takes the place of an outcome is fills of the batch
+-- what takes the place of an outcome is fills of the batch, where those of the outcome are
 pub better_fills : (book : BookState) (market : ℕ) (batch : Batch) → option_map batch_of (market_of book market) ≡ Some batch
-    → (kept : KeptProposals) → AreProvedIn book kept → (outcome : Outcome) (better : BoundedOutcome) → bounded_in market (numbers_of batch.orders) outcome kept ≡ Some better
+    → (kept : KeptProposals) → AreProvedIn book kept → (outcome : Outcome) → AreFractionFills batch.orders (map fraction_of outcome.fills)
+    → (better : BoundedOutcome) → bounded_in market (numbers_of batch.orders) outcome kept ≡ Some better
     → AreFractionFills batch.orders (map fraction_of better.proposal.fills)
-better_fills book market batch found kept are outcome better is = by (market_of book market) refl found
+better_fills book market batch found kept are outcome fills better is = by (market_of book market) refl found
   where
     by : (m : Option MarketState) → market_of book market ≡ m → option_map batch_of m ≡ Some batch → AreFractionFills batch.orders (map fraction_of better.proposal.fills)
     by None none e = cc
     by (Some m) there e =
-        let own : batch ≡ batch_of m = cc in
-        (batch_proves book market m there kept are batch own outcome better is).covered.covers.are_fills
+        let own : batch ≡ batch_of m = cc in clearing.better_fills book market m there kept are batch own outcome fills better is
 
--- what is kept stays proved, all of it or without what was kept for the market
-pub batch_keeps : (book : BookState) (market : ℕ) (kept : KeptProposals) → AreProvedIn book kept → AreProvedIn (after_batch book market) kept
+-- what was taken in place of an outcome, or the outcome itself
+pub taken_better : {A E : Type 0} (better : Option A) (outcome : E) (x : A) → ok_or better outcome ≡ Ok x → better ≡ Some x
+taken_better None outcome x is = absurd (cc)
+taken_better (Some better) outcome x is = cc
+
+pub taken_none : {A E : Type 0} (better : Option A) (outcome left : E) → ok_or better outcome ≡ Err left → (better ≡ None) × (left ≡ outcome)
+taken_none None outcome left is = (refl, cc)
+taken_none (Some better) outcome left is = absurd (cc)
+
+-- what is kept stays proved, without what was kept for the market
+batch_keeps : (book : BookState) (market : ℕ) (kept : KeptProposals) → AreProvedIn book kept → AreProvedIn (after_batch book market) kept
 batch_keeps book market kept are = entries_moved book (after_batch book market) (λ q best is. after_batch_proved book q best is market) kept are
 
 pub batch_keeps_others : (book : BookState) (market : ℕ) (kept : KeptProposals) → AreProvedIn book kept → AreProvedIn (after_batch book market) (without_kept market kept)
@@ -77,9 +86,10 @@ module _ (state : ProposingState) (market : ℕ) (batch : Batch) (outcome : Outc
 
   pub reference_charged : None ≡ bounded_in market (numbers_of batch.orders) outcome state.kept
       → (number : ℕ) → number ≡ state.exchange.book.finished + 1 → (after : ExchangeState) → after ≡ cleared_with state.exchange market outcome.fills
-      → (Plain (reply.Cleared number market batch outcome), state_of after state.kept) ≡ charge_effect state market outcome (better_than state market outcome)
-  reference_charged e number counted after cleared =
-      subst (λ b. (Plain (reply.Cleared number market batch outcome), state_of after state.kept) ≡ charge_effect state market outcome b) (sym (better_is None e)) (rw (counted, cleared, own) refl)
+      → (kept : KeptProposals) → kept ≡ without_kept market state.kept
+      → (Plain (reply.Cleared number market batch outcome), state_of after kept) ≡ charge_effect state market outcome (better_than state market outcome)
+  reference_charged e number counted after cleared kept left =
+      subst (λ b. (Plain (reply.Cleared number market batch outcome), state_of after kept) ≡ charge_effect state market outcome b) (sym (better_is None e)) (rw (counted, cleared, left, own) refl)
 
 -- ---- a proposal is taken in
 pub offer_keeps : (state : ExchangeState) → IsKept state → (kept : KeptProposals) → AreProvedIn state.book kept → (proposed : Proposed) (batch : Batch)

@@ -12,7 +12,7 @@ use Rattle.session_lines.specs.Served.{EndsLines, without_feed}
 use Rattle.session_lines.proofs.Served.{feed_again}
 use Rattle.proposal_lines.specs.AllKinds.{said_line}
 use Rattle.proposal_lines.specs.Clears.{clear_reply}
-use Rattle.proposal_lines.specs.Output.{proposing_line, proposing_reply_line, served_line, written_reply}
+use Rattle.proposal_lines.specs.Output.{proposing_line, proposing_reply_line, served_line, settlement_reply, written_reply}
 use Rattle.proposal_lines.specs.Proposed.{proposed_of, proposed_reply}
 use Rattle.proposal_lines.specs.ProposingState.{ProposingState}
 use Rattle.proposal_lines.specs.Reads.{book_reply, positions_reply}
@@ -53,6 +53,7 @@ ends_lines number state line =
     by_kind (λ said. Ends (served_line number state line said).0)
     (λ request. written_ends number (proposed_reply state (proposed_of line request)))
     (λ market budget. written_ends number (clear_reply state market budget))
+    (λ market count prices. written_ends number (settlement_reply state market count prices))
     (λ market. written_ends number (book_reply state.exchange market, state))
     (λ account market. written_ends number (positions_reply state.exchange account market, state))
     (λ request. written_ends number (trial_reply state.exchange request, state))

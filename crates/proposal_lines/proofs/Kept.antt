@@ -1,10 +1,10 @@
 -- What is kept is proved for the batch of the live orders, where they are those that it is for.
-use Rattle.std.proofs.Common.{◌≡◌, ℕ, ◌≤◌, List, [], ◌∷◌, Bool, true, false, cond, nat_eq, if◌then◌else◌, Option, Some, None, Ok, option_and_then, refl, sym, ap, ◌∙◌, subst}
+use Rattle.std.proofs.Common.{◌≡◌, ℕ, ◌≤◌, List, [], ◌∷◌, Bool, true, false, cond, not, nat_eq, if◌then◌else◌, Option, Some, None, Ok, option_and_then, refl, sym, ap, ◌∙◌, subst}
 use Rattle.std.specs.Prelude.{IfSome}
 use Rattle.std.specs.List.{All}
-use Rattle.std.specs.Map.{lookup, remove_entry}
+use Rattle.std.specs.Map.{lookup}
 use Rattle.std.specs.Option.{option_map}
-use Rattle.std.proofs.lemmas.List.Elements.{All-nil, All-cons, All-head, All-tail, All-weaker}
+use Rattle.std.proofs.lemmas.List.Elements.{All-filter, All-nil, All-cons, All-head, All-tail, All-weaker}
 use Rattle.std.proofs.lemmas.Slice.Eq.{bytes_eq-Decides}
 use Rattle.indexmap.specs.IndexMap.{insert_entry}
 use Rattle.proposal_check.specs.Proposals.{proposal_bound}
@@ -25,7 +25,7 @@ use Rattle.proposals.specs.Best.{after_offer, are_same_orders, best_for, best_of
 use Rattle.proposals.specs.Laws.{IsProvedBest}
 use Rattle.proposals.specs.declared.best.Best.{Best}
 use Rattle.proposals.proofs.Offers.{offers_stay_proved}
-use Rattle.proposal_lines.specs.KeptByMarket.{KeptProposals, best_in, kept_in, with_kept, without_kept}
+use Rattle.proposal_lines.specs.KeptByMarket.{KeptProposals, after_end, best_in, kept_in, with_kept, without_kept}
 use Rattle.proposal_lines.specs.Proved.{AgreesWith, AreProvedIn, IsProvedIn}
 use Rattle.proposal_lines.proofs.Numbered.{agree_all, same_orders}
 
@@ -60,13 +60,7 @@ module _ (P : ℕ → Best → Type 0) (market : ℕ) where
       by false is later = later
 
   pub without_has : (kept : KeptProposals) → All (Has P) kept → All (Has P) (without_kept market kept)
-  without_has [] are = are
-  without_has (e ∷ kept) are =
-      let others = All-tail (Has P) e kept are in
-      elim (nat_eq market e.0) as (λ b. All (Has P) (cond b kept (e ∷ remove_entry (nat_eq market) kept))) [
-        | true ↦ others
-        | false ↦ All-cons (Has P) e (remove_entry (nat_eq market) kept) (All-head (Has P) e kept are) (without_has kept others)
-      ]
+  without_has kept are = All-filter (λ (e : ℕ × Option Best). not (nat_eq market e.0)) (Has P) kept are
 
   inserted_has : (best : Best) → P market best → (kept : KeptProposals) → All (Has P) kept → All (Has P) (insert_entry nat_eq kept market (Some best))
   inserted_has best is [] are = All-cons (Has P) (market, Some best) [] is (All-nil (Has P))
@@ -79,6 +73,11 @@ module _ (P : ℕ → Best → Type 0) (market : ℕ) where
 
   pub with_has : (best : Best) → P market best → (kept : KeptProposals) → All (Has P) kept → All (Has P) (with_kept market best kept)
   with_has best is kept are = inserted_has best is (without_kept market kept) (without_has kept are)
+
+-- where one is cleared or settled, or none
+pub ended_has : (P : ℕ → Best → Type 0) (ended : Option ℕ) (kept : KeptProposals) → All (Has P) kept → All (Has P) (after_end kept ended)
+ended_has P None kept are = are
+ended_has P (Some market) kept are = without_has P market kept are
 
 module _ (book : BookState) (market : ℕ) where
   pub found_proved : (kept : KeptProposals) → AreProvedIn book kept → IfSome (kept_in market kept) (IsProvedIn book market)

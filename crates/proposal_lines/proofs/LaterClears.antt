@@ -1,12 +1,13 @@
 -- A proposal lowers the surplus of no clear, for as long as the orders of its market stay.
-use Rattle.std.proofs.Common.{◌≡◌, ℕ, List, [], ◌∷◌, Bool, true, false, nat_eq, if◌then◌else◌, Option, Some, None, Result, Ok, Err, option_and_then, refl, sym, ap, ◌∙◌, subst}
+use Rattle.std.proofs.Common.{◌≡◌, ℕ, List, [], ◌∷◌, Bool, true, false, nat_eq, if◌then◌else◌, Option, Some, None, Result, Ok, Err, refl, sym, ap, ◌∙◌, subst}
 use Rattle.std.specs.Option.{option_map_or}
+use Rattle.auction_phases.specs.Phases.{ended_in}
 use Rattle.proposal_lines.specs.AllKinds.{said_line}
 use Rattle.proposal_check.specs.Proposals.{proposal_bound}
 use Rattle.cert_check.specs.declared.outcome.Outcome.{Outcome}
 use Rattle.proposal_check.specs.declared.covers.Unproved.{Unproved as Reason}
 use Rattle.command_text.specs.declared.asked.Fault.{Fault}
-use Rattle.command_text.specs.declared.command.Command.TheVariants.{Clear}
+use Rattle.command_text.specs.declared.command.Command.TheVariants.{Clear, Settle}
 use Rattle.command_text.specs.declared.requests.Request.{Request}
 use Rattle.command_text.specs.declared.requests.Request.TheVariants as asks
 use Rattle.command_text.specs.declared.words.TheConstants.{SERVED}
@@ -17,7 +18,7 @@ use Rattle.exact_num.specs.Fraction.{AtMost, Fraction}
 use Rattle.exchange_core.specs.declared.refusal.Refusal.{Refusal}
 use Rattle.exchange_core.specs.ExchangeState.{ExchangeState}
 use Rattle.exchange_core.specs.Refusals.{by_book, refusal_of}
-use Rattle.exchange_core.specs.Step.{batch_in, cleared_with}
+use Rattle.exchange_core.specs.Step.{batch_in, cleared_with, step}
 use Rattle.exchange_lines.specs.LineSteps.{InputLine}
 use Rattle.form.specs.declared.orders.Batch.{Batch}
 use Rattle.frac.specs.Range.{limit}
@@ -32,10 +33,10 @@ use Rattle.proposals.specs.Best.{after_offer, are_same_orders, best_for, surplus
 use Rattle.proposals.specs.declared.best.Best.{Best}
 use Rattle.lists.specs.Refusals.{first_of}
 use Rattle.proposal_lines.specs.Clears.{better_in, clear_reply, cleared_by, reference_in}
-use Rattle.proposal_lines.specs.KeptByMarket.{KeptProposals, best_in, if_above, kept_in, stop_of, with_kept, without_kept}
+use Rattle.proposal_lines.specs.KeptByMarket.{KeptProposals, after_end, best_in, kept_in, stop_of, with_kept, without_kept}
 use Rattle.proposal_lines.specs.LaterClears.{IsNoClearOf, IsUnharmed, LeaveOrders, ProposalsLowerNothing}
 use Rattle.proposal_lines.specs.Laws.{cleared_surplus}
-use Rattle.proposal_lines.specs.Output.{other_line, proposing_line, served_line, written_reply}
+use Rattle.proposal_lines.specs.Output.{other_line, proposing_line, served_line, settlement_reply, written_reply}
 use Rattle.proposal_lines.specs.Answers.{state_by_lines}
 use Rattle.proposal_lines.specs.Proposed.{after_proposed, judged_effect, kept_by, offered, proposed_by, proposed_of, proposed_reply, stale_effect, unproved_effect}
 use Rattle.proposal_lines.specs.ProposingState.{ProposingState, state_of}
@@ -45,18 +46,19 @@ use Rattle.proposal_lines.specs.declared.replies.ProposingReply.{ProposingReply}
 use Rattle.proposal_lines.proofs.Kept.{same_numbers}
 use Rattle.proposal_lines.proofs.SaidKinds.{by_kind}
 use Rattle.proposal_lines.proofs.Lowering.{IsNoLess, after_counts, after_no_less, after_no_worse, as_much, charged_no_less}
-use Rattle.proposal_lines.proofs.ByMarket.{kept_in_others, other_way, others_in, others_kept, others_removed, own_counts, own_kept, removed_in_others, with_in_others}
+use Rattle.proposal_lines.proofs.ByMarket.{none_left, other_way, others_kept, others_removed, own_counts, own_kept, removed_in_others, with_in_others}
+use Rattle.proposal_lines.proofs.Clearing.{bounded_where}
 
 abbrev live_in : ExchangeState → ℕ → List ℕ
 live_in exchange market = numbers_of (batch_in exchange market).orders
 
 -- what is kept for other markets is the same, and what counts for this one is no less
 record IsNoWorseFor (market : ℕ) (exchange : ExchangeState) (one other : KeptProposals) : Type 0 where
-  others : others_in market other ≡ others_in market one
+  others : without_kept market other ≡ without_kept market one
   counted : IsNoLess (best_in market (live_in exchange market) one) (best_in market (live_in exchange market) other)
 
-kept_alike : (market : ℕ) (one other : KeptProposals) → others_in market other ≡ others_in market one → (q : ℕ) → nat_eq q market ≡ false → kept_in q other ≡ kept_in q one
-kept_alike market one other others q apart = sym (kept_in_others market q apart other) ∙ ap (kept_in q) others ∙ kept_in_others market q apart one
+kept_alike : (market : ℕ) (one other : KeptProposals) → without_kept market other ≡ without_kept market one → (q : ℕ) → nat_eq q market ≡ false → kept_in q other ≡ kept_in q one
+kept_alike market one other others q apart = sym (others_removed market q apart other) ∙ ap (kept_in q) others ∙ others_removed market q apart one
 
 record IsNoWorse (market : ℕ) (one other : ProposingState) : Type 0 where
   exchange : other.exchange ≡ one.exchange
@@ -116,17 +118,17 @@ module _ (exchange : ExchangeState) (proposed : Proposed) (bound : Frac128) wher
       best : KeptProposals → Best
       best kept = after_proposed kept proposed bound
 
-      others_apart : nat_eq proposed.market market ≡ false → others_in market (taken_in other) ≡ others_in market (taken_in one)
+      others_apart : nat_eq proposed.market market ≡ false → without_kept market (taken_in other) ≡ without_kept market (taken_in one)
       others_apart apart =
           let same_best : best other ≡ best one =
           ap (λ k. after_offer k orders proposed.submission.proposal bound) (kept_alike market one other no_worse.others proposed.market apart) in
           with_in_others market proposed.market apart (best other) other
-          ∙ ap (λ b. with_kept proposed.market b (others_in market other)) same_best ∙ ap (with_kept proposed.market (best one)) no_worse.others
+          ∙ ap (λ b. with_kept proposed.market b (without_kept market other)) same_best ∙ ap (with_kept proposed.market (best one)) no_worse.others
           ∙ sym (with_in_others market proposed.market apart (best one) one)
 
-      others_here : market ≡ proposed.market → others_in proposed.market (taken_in other) ≡ others_in proposed.market (taken_in one)
+      others_here : market ≡ proposed.market → without_kept proposed.market (taken_in other) ≡ without_kept proposed.market (taken_in one)
       others_here at =
-          own_kept proposed.market (best other) other ∙ subst (λ q. others_in q other ≡ others_in q one) at no_worse.others
+          own_kept proposed.market (best other) other ∙ subst (λ q. without_kept q other ≡ without_kept q one) at no_worse.others
           ∙ sym (own_kept proposed.market (best one) one)
 
       Counts : ℕ → Type 0
@@ -146,7 +148,7 @@ module _ (exchange : ExchangeState) (proposed : Proposed) (bound : Frac128) wher
       by true at =
           let e = same_number market proposed.market at in
           record {
-            others = subst (λ q. others_in q (taken_in other) ≡ others_in q (taken_in one)) (sym e) (others_here e);
+            others = subst (λ q. without_kept q (taken_in other) ≡ without_kept q (taken_in one)) (sym e) (others_here e);
             counted = subst Counts (sym e) (for_market e);
           }
       by false at = record {
@@ -232,7 +234,7 @@ module _ (market : ℕ) (exchange : ExchangeState) (one other : KeptProposals) (
   OrdersStay after = batch_in after market ≡ batch_in exchange market
 
   -- and what is kept for it
-  left_both : (after : ExchangeState) → OrdersStay after → (left : KeptProposals → KeptProposals) → others_in market (left other) ≡ others_in market (left one)
+  left_both : (after : ExchangeState) → OrdersStay after → (left : KeptProposals → KeptProposals) → without_kept market (left other) ≡ without_kept market (left one)
       → ((kept : KeptProposals) → kept_in market (left kept) ≡ kept_in market kept) → IsNoWorse market (state_of after (left one)) (state_of after (left other))
   left_both after stay left others here = record {
     exchange = refl;
@@ -244,6 +246,33 @@ module _ (market : ℕ) (exchange : ExchangeState) (one other : KeptProposals) (
           (subst (λ k. IsNoLess (best_in market (live_in exchange market) one) (best_for k (live_in exchange market))) (sym (here other)) no_worse.counted));
     };
   }
+
+  -- what is kept for it is let go of
+  own_ended : (after : ExchangeState) → IsNoWorse market (state_of after (without_kept market one)) (state_of after (without_kept market other))
+  own_ended after = record {
+    exchange = refl;
+    kept = record {
+      others = ap (without_kept market) no_worse.others;
+      counted = subst (λ k. IsNoLess (best_for k (live_in after market)) (best_in market (live_in after market) (without_kept market other))) (sym (none_left market one)) tt;
+    };
+  }
+
+  -- or what is kept for another
+  other_ended : (after : ExchangeState) → OrdersStay after → (ended : ℕ) → nat_eq ended market ≡ false
+      → IsNoWorse market (state_of after (without_kept ended one)) (state_of after (without_kept ended other))
+  other_ended after stay ended apart =
+      left_both after stay (without_kept ended)
+      (removed_in_others market ended apart other ∙ ap (without_kept ended) no_worse.others ∙ sym (removed_in_others market ended apart one))
+      (others_removed ended market (other_way ended market apart))
+
+  ended_both : (after : ExchangeState) → OrdersStay after → (ended : Option ℕ) → IsNoWorse market (state_of after (after_end one ended)) (state_of after (after_end other ended))
+  ended_both after stay None = left_both after stay (λ kept. kept) no_worse.others (λ kept. refl)
+  ended_both after stay (Some ended) = by (nat_eq ended market) refl
+    where
+      by : (b : Bool) → nat_eq ended market ≡ b → IsNoWorse market (state_of after (without_kept ended one)) (state_of after (without_kept ended other))
+      by true own =
+          subst (λ (q : ℕ). IsNoWorse market (state_of after (without_kept q one)) (state_of after (without_kept q other))) (sym (same_number ended market own)) (own_ended after)
+      by false apart = other_ended after stay ended apart
 
   module _ (number : ℕ) (line : List ℕ) where
     abbrev Both : (ProposingState → List ℕ × ProposingState) → Type 0
@@ -264,8 +293,7 @@ module _ (market : ℕ) (exchange : ExchangeState) (one other : KeptProposals) (
         same_better : better_in (state_of exchange other) cleared budget ≡ better_in (state_of exchange one) cleared budget
         same_better =
             let outcome = reference_in (state_of exchange one) cleared budget in
-            ap (λ k. option_and_then (λ run. option_and_then (if_above outcome run) (best_for k (live_in exchange cleared))) (stop_of outcome.mark))
-            (kept_alike market one other no_worse.others cleared apart)
+            ap (λ k. bounded_where outcome (stop_of outcome.mark) (best_for k (live_in exchange cleared))) (kept_alike market one other no_worse.others cleared apart)
 
         Both_by : Option BoundedOutcome → Type 0
         Both_by better =
@@ -276,12 +304,12 @@ module _ (market : ℕ) (exchange : ExchangeState) (one other : KeptProposals) (
         by : (r : Option Refusal) (better : Option BoundedOutcome) → OrdersStay (By (state_of exchange one) r better).1.exchange
             → IsNoWorse market (By (state_of exchange one) r better).1 (By (state_of exchange other) r better).1
         by (Some first) better stay = unchanged
-        by None None stay =
-            left_both (cleared_with exchange cleared (reference_in (state_of exchange one) cleared budget).fills) stay (λ kept. kept) no_worse.others (λ kept. refl)
-        by None (Some better) stay =
-            left_both (cleared_with exchange cleared better.proposal.fills) stay (without_kept cleared)
-            (removed_in_others market cleared apart other ∙ ap (without_kept cleared) no_worse.others ∙ sym (removed_in_others market cleared apart one))
-            (others_removed cleared market (other_way cleared market apart))
+        by None None stay = other_ended (cleared_with exchange cleared (reference_in (state_of exchange one) cleared budget).fills) stay cleared apart
+        by None (Some better) stay = other_ended (cleared_with exchange cleared better.proposal.fills) stay cleared apart
+
+    -- a settlement of any market
+    settle_both : (settled count : ℕ) (prices : List ℕ) → Both (λ state. written_reply number (settlement_reply state settled count prices))
+    settle_both settled count prices stay = ended_both (step exchange (Settle settled count prices)).1 stay (ended_in exchange (Settle settled count prices))
 
     -- what is no clear of the market
     abbrev ClearsNot : Result Request Fault → Type 0
@@ -292,6 +320,7 @@ module _ (market : ℕ) (exchange : ExchangeState) (one other : KeptProposals) (
         by_kind (λ said. ClearsNot said → Both (λ state. served_line number state line said))
         (λ request none stay. proposed_both (proposed_of line request))
         (λ cleared budget none. by cleared budget (nat_eq cleared market) refl none)
+        (λ settled count prices none. settle_both settled count prices)
         (λ read none stay. unchanged)
         (λ account read none stay. unchanged)
         (λ request none stay. unchanged)

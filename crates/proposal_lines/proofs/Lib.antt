@@ -19,4 +19,6 @@ pub mod Ends
 pub mod Without
 pub mod Charging
 pub mod UsingBest
+pub mod StaySettled
+pub mod LettingGo
 pub mod ToldAlone

@@ -1,5 +1,5 @@
 -- No proposal lowers the surplus of a clear.
-use Rattle.std.proofs.Common.{◌≡◌, ℕ, ◌<◌, List, Bool, true, false, if◌then◌else◌, Option, Some, None, option_and_then, refl, sym, ap, subst, arith, pos, ◌*ℤ◌}
+use Rattle.std.proofs.Common.{◌≡◌, ℕ, ◌<◌, List, Bool, true, false, if◌then◌else◌, Option, Some, None, refl, sym, ap, subst, arith, pos, ◌*ℤ◌}
 use Rattle.std.specs.Prelude.{IfSome, ⊤}
 use Rattle.std.proofs.lemmas.Int.{ints}
 use Rattle.std.proofs.lemmas.Slice.Eq.{bytes_eq-Decides}
@@ -17,9 +17,9 @@ use Rattle.proposals.specs.declared.best.CoveredFills.{CoveredFills}
 use Rattle.proposals.specs.Laws.{IsNoWorse}
 use Rattle.proposals.specs.declared.best.Best.{Best}
 use Rattle.proposals.proofs.Offers.{offers_lose_nothing}
-use Rattle.proposal_lines.specs.KeptByMarket.{bounded_by, if_above}
+use Rattle.proposal_lines.specs.KeptByMarket.{bounded_as}
 use Rattle.proposal_lines.specs.Laws.{charged_surplus}
-use Rattle.proposal_lines.proofs.Clearing.{at_least, is_above, is_below, is_most}
+use Rattle.proposal_lines.proofs.Clearing.{at_least, bounded_has, bounded_where, is_below, is_most, not_below_kept, not_below_match}
 use Rattle.proposal_lines.proofs.Kept.{offered_orders}
 
 -- ---- the greater of what is kept, and an outcome
@@ -30,25 +30,16 @@ at_most_trans x y z some first second =
     *ℤ_cancel_le y.denominator (x.numerator *ℤ pos z.denominator) (z.numerator *ℤ pos x.denominator) (omega (arith, some)) (omega (arith, ints, products, one, two))
 
 abbrev pub charged_by : Outcome → Option RunStop → Option Best → Fraction
-charged_by outcome run best = charged_surplus outcome (option_and_then (λ run. option_and_then (if_above outcome run) best) run)
+charged_by outcome run best = charged_surplus outcome (bounded_where outcome run best)
 
 -- a greater surplus is charged where a lesser one was
 greater : (outcome : Outcome) (run : Option RunStop) (old new : Best) → AtMost (surplus_of old.covered) (surplus_of new.covered)
     → AtMost (charged_by outcome run (Some old)) (charged_by outcome run (Some new))
 greater outcome None old new le = omega (arith, ints)
 greater outcome (Some stop) old new le =
-    by (is_at_most (surplus_of old.covered) (fraction_of outcome.claim.surplus)) refl (is_at_most (surplus_of new.covered) (fraction_of outcome.claim.surplus)) refl
-  where
-    R : Fraction
-    R = fraction_of outcome.claim.surplus
-
-    by : (s : Bool) → is_at_most (surplus_of old.covered) R ≡ s → (t : Bool) → is_at_most (surplus_of new.covered) R ≡ t
-        → AtMost (charged_surplus outcome (if s then None else Some (bounded_by old stop outcome.units))) (charged_surplus outcome (if t then None else Some (bounded_by new stop outcome.units)))
-    by true a true b = omega (arith, ints)
-    by true a false b = is_below (surplus_of new.covered) R b
-    by false a true b =
-        absurd (is_above (surplus_of old.covered) R a (at_most_trans (surplus_of old.covered) (surplus_of new.covered) R new.covered.claim.surplus.lowest.positive le (is_most (surplus_of new.covered) R b)))
-    by false a false b = le
+    let charged : Fraction = fraction_of (bounded_as outcome stop new).proposal.claim.surplus in
+    bounded_has outcome stop old (λ b. AtMost (fraction_of b.proposal.claim.surplus) charged) (λ is. not_below_match outcome stop new)
+    (λ is. at_most_trans (surplus_of old.covered) (surplus_of new.covered) charged new.covered.claim.surplus.lowest.positive le (not_below_kept outcome stop new))
 
 none_charged : (outcome : Outcome) (run : Option RunStop) → charged_by outcome run None ≡ fraction_of outcome.claim.surplus
 none_charged outcome None = refl

@@ -107,6 +107,20 @@ module _ (book : BookState) (market : ℕ) (best : Best) (is : IsProvedIn book m
       (All-replaced IsAlike closed settled_market [] (λ m. refl) book.markets is.agree (All-nil IsAlike)) (omega arith)
 
 -- ---- the steps of an exchange
+-- what each effect keeps, each reply keeps
+module _ (P : ExchangeState → Type 0) (state : ExchangeState) (is : P state) (each : (command : Command) → P (effect state command).1) where
+  step_keeps : (command : Command) → P (step state command).1
+  step_keeps command =
+      elim (refusal_of state command) as (λ (r : Option Refusal). P (option_map_or (refusal_effect state) r (effect state command)).1) [
+        | None ↦ each command
+        | Some refusal ↦ is
+      ]
+
+  pub reply_keeps : (said : Body) → P (reply_to state said).1
+  reply_keeps (Says command) = step_keeps command
+  reply_keeps Syntax = is
+  reply_keeps (Range field) = is
+
 module _ (state : ExchangeState) (market : ℕ) (best : Best) (is : IsProvedIn state.book market best) where
   effect_proved : (command : Command) → IsProvedIn (effect state command).1.book market best
   effect_proved (Open account) = is
@@ -121,17 +135,8 @@ module _ (state : ExchangeState) (market : ℕ) (best : Best) (is : IsProvedIn s
   effect_proved (Settle settled count prices) = after_close_proved state.book market best is settled
   effect_proved (Balance account) = is
 
-  step_proved : (command : Command) → IsProvedIn (step state command).1.book market best
-  step_proved command =
-      elim (refusal_of state command) as (λ (r : Option Refusal). IsProvedIn (option_map_or (refusal_effect state) r (effect state command)).1.book market best) [
-        | None ↦ effect_proved command
-        | Some refusal ↦ is
-      ]
-
   pub reply_proved : (said : Body) → IsProvedIn (reply_to state said).1.book market best
-  reply_proved (Says command) = step_proved command
-  reply_proved Syntax = is
-  reply_proved (Range field) = is
+  reply_proved = reply_keeps (λ (after : ExchangeState). IsProvedIn after.book market best) state is effect_proved
 
 -- ---- of all that is kept
 pub entries_moved : (before after : BookState) → ((market : ℕ) (best : Best) → IsProvedIn before market best → IsProvedIn after market best)

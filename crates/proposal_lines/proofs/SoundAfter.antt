@@ -1,6 +1,7 @@
 -- What a line is told leaves a state that an exchange which takes proposals may be in.
 use Rattle.std.proofs.Common.{◌≡◌, ℕ, List, Ok, ap, sym, ◌∙◌, subst}
 use Rattle.std.proofs.lemmas.Slice.Eq.{bytes_eq-Decides}
+use Rattle.auction_phases.specs.Phases.{ended_by}
 use Rattle.proposal_check.specs.Proposals.{proposal_bound}
 use Rattle.command_text.specs.Commands.{body_of_line}
 use Rattle.command_text.proofs.ReadWithin.{lines_are_within}
@@ -20,13 +21,13 @@ use Rattle.order_book.specs.Book.{batch_of}
 use Rattle.order_book.specs.Numbers.{numbers_of}
 use Rattle.order_book.proofs.Accepting.{listing_live}
 use Rattle.proposal_lines.specs.Answers.{BoundedAnswer, IsBesideFor, IsBoundedFor, IsRepliedFor, IsTakenFor, IsToldFor, ProposalAnswer, TakenAnswer, beside, bounded, replied, taken}
-use Rattle.proposal_lines.specs.KeptByMarket.{KeptProposals, with_kept, without_kept}
+use Rattle.proposal_lines.specs.KeptByMarket.{KeptProposals, after_end, with_kept, without_kept}
 use Rattle.proposal_lines.specs.Laws.{IsSound}
 use Rattle.proposal_lines.specs.ProposingState.{ProposingState}
 use Rattle.proposal_lines.specs.Proved.{AreProvedIn, IsProvedIn}
 use Rattle.proposal_lines.proofs.Charging.{batch_keeps_others}
 use Rattle.proposal_lines.proofs.Clearing.{batch_is, better_is}
-use Rattle.proposal_lines.proofs.Kept.{offered_proved, with_proved}
+use Rattle.proposal_lines.proofs.Kept.{ended_has, offered_proved, with_proved}
 use Rattle.proposal_lines.proofs.Moving.{entries_moved, reply_proved}
 
 module _ (state next : ProposingState) (line : InputLine) (sound : IsSound state) where
@@ -41,8 +42,10 @@ module _ (state next : ProposingState) (line : InputLine) (sound : IsSound state
   replied_sound answer is =
       let said = body_of_line line.bytes in
       let after : ExchangeState = (reply_to state.exchange said).1 in
-      becomes_sound after state.kept is.exchange is.kept (answer_keeps state.exchange said sound.kept (lines_are_within line.bytes))
-      (entries_moved state.exchange.book after.book (λ market best proved. reply_proved state.exchange market best proved said) state.kept sound.proved)
+      let ended = ended_by answer.reply in
+      becomes_sound after (after_end state.kept ended) is.exchange is.kept (answer_keeps state.exchange said sound.kept (lines_are_within line.bytes))
+      (ended_has (IsProvedIn after.book) ended state.kept
+      (entries_moved state.exchange.book after.book (λ market best proved. reply_proved state.exchange market best proved said) state.kept sound.proved))
 
   pub bounded_sound : (answer : BoundedAnswer) → IsBoundedFor state line answer next → IsSound next
   bounded_sound answer is =

@@ -1,8 +1,10 @@
 -- What is written for an input is told line by line, and keeps what is promised.
-use Rattle.std.proofs.Common.{◌≡◌, ℕ, ◌+◌, List, [], ◌∷◌, ◌++◌, All, map, true, Option, Some, None, Result, Ok, Err, inl, inr, refl, sym, ap, ◌∙◌, subst}
+use Rattle.std.proofs.Common.{◌≡◌, ℕ, ◌+◌, List, [], ◌∷◌, ◌++◌, All, map, take, true, Option, Some, None, Result, Ok, Err, inl, inr, refl, sym, ap, ◌∙◌, subst}
 use Rattle.std.specs.Option.{option_map_or}
 use Rattle.std.proofs.lemmas.List.Elements.{All-nil, All-cons}
 use Rattle.proposal_lines.proofs.AsRun.{said_as_run, said_beside}
+use Rattle.auction_phases.specs.Phases.{ended_by, ended_in}
+use Rattle.auction_phases.proofs.Ends.{ends_are_told}
 use Rattle.cert_check.specs.Laws.{IsCovered}
 use Rattle.proposal_check.specs.Proposals.{as_outcome, proposal_bound}
 use Rattle.proposal_check.proofs.Proposals.{proposals_are_decided}
@@ -22,7 +24,7 @@ use Rattle.proposal_lines.specs.declared.replies.ProposingReply.TheVariants as r
 use Rattle.command_text.specs.declared.command.Body.{Body}
 use Rattle.command_text.specs.declared.command.Body.TheVariants as body
 use Rattle.command_text.specs.declared.command.Command.{Command}
-use Rattle.command_text.specs.declared.command.Command.TheVariants.{Clear}
+use Rattle.command_text.specs.declared.command.Command.TheVariants.{Clear, Settle}
 use Rattle.command_text.specs.declared.requests.ProposeRequest.{ProposeRequest}
 use Rattle.command_text.specs.declared.requests.Request.{Request}
 use Rattle.command_text.specs.declared.requests.Request.TheVariants as asks
@@ -37,7 +39,7 @@ use Rattle.exchange_core.specs.declared.refusal.Refusal.{Refusal}
 use Rattle.exchange_core.specs.ExchangeState.{ExchangeState, empty_exchange}
 use Rattle.exchange_core.specs.LineReplies.{reply_to}
 use Rattle.exchange_core.specs.Refusals.{refusal_of}
-use Rattle.exchange_core.specs.Step.{batch_in, clear_effect, refusal_effect, step}
+use Rattle.exchange_core.specs.Step.{batch_in, clear_effect, refusal_effect, settle_effect}
 use Rattle.exchange_core.proofs.Keeping.{empty_is_kept}
 use Rattle.exchange_lines.specs.LineSteps.{InputLine, input_line, input_lines, line_of}
 use Rattle.exchange_lines.specs.Replies.{answer_to}
@@ -52,9 +54,9 @@ use Rattle.proposal_text.specs.declared.replies.BoundedOutcome.{BoundedOutcome}
 use Rattle.reply_print.specs.ReplyPieces.{reply_line}
 use Rattle.reply_print.specs.declared.replies.Reply.{Reply}
 use Rattle.proposal_lines.specs.Clears.{better_in, bounded_effect, clear_reply, cleared_by, reference_in}
-use Rattle.proposal_lines.specs.KeptByMarket.{KeptProposals}
+use Rattle.proposal_lines.specs.KeptByMarket.{KeptProposals, after_end}
 use Rattle.proposal_lines.specs.Laws.{IsBetter, IsClearedAs, IsSound}
-use Rattle.proposal_lines.specs.Output.{other_line, proposing_line, served_line, written_reply}
+use Rattle.proposal_lines.specs.Output.{other_line, proposing_line, served_line, settlement_reply, written_reply}
 use Rattle.proposal_lines.specs.Answers.{AreToldFor, BoundedAnswer, IsBesideFor, IsBesideProposals, IsBoundedFor, IsRepliedFor, IsTakenFor, IsToldFor, ProposalAnswer, TakenAnswer, TellsAsked, beside, bounded, replied, state_by, taken, told_text, told_texts}
 use Rattle.proposal_lines.specs.Promises.{KeepsProposalPromises, OutputsTellProposals, TellsBy, charged, replies_in}
 use Rattle.proposal_lines.specs.Proposed.{after_proposed, kept_by, offered, proposed_by, proposed_of, proposed_reply}
@@ -65,7 +67,7 @@ use Rattle.proposal_lines.specs.Trials.{trial_reply}
 use Rattle.proposal_lines.proofs.AskedLines.{asked_told}
 use Rattle.proposal_lines.proofs.Beside.{IsBeside, beside_text, book_beside, fault_beside, positions_beside, refusal_beside, trial_beside}
 use Rattle.proposal_lines.proofs.Clearing.{clears_are_proved}
-use Rattle.proposal_lines.proofs.SaidKinds.{IsOther, IsUnbeaten, by_kind}
+use Rattle.proposal_lines.proofs.SaidKinds.{IsOther, IsUncounted, by_kind, uncounted}
 use Rattle.proposal_lines.proofs.SoundAfter.{beside_sound, bounded_sound, replied_sound, taken_sound}
 use Rattle.proposal_lines.proofs.Taking.{offer_becomes, taken_is_proved}
 use Rattle.proposal_lines.proofs.UsingBest.{uses_the_best}
@@ -167,11 +169,11 @@ module _ (state : ProposingState) (line : InputLine) (sound : IsSound state) whe
   abbrev run_reply : Reply × ExchangeState
   run_reply = reply_to state.exchange (body_of_line line.bytes)
 
-  pub replied_told : (now : List ℕ × ProposingState) → now.0 ≡ reply_line line.number run_reply.0 ++ 10 ∷ [] → now.1.exchange ≡ run_reply.1 → now.1.kept ≡ state.kept
-      → IsUnbeaten state run_reply.0 → Told now
-  replied_told now text same kept unbeaten =
+  replied_told : (now : List ℕ × ProposingState) → now.0 ≡ reply_line line.number run_reply.0 ++ 10 ∷ [] → now.1.exchange ≡ run_reply.1
+      → now.1.kept ≡ after_end state.kept (ended_by run_reply.0) → IsUncounted state run_reply.0 → Told now
+  replied_told now text same kept none =
       let answer = answer_to state.exchange (line_of line) in
-      let told : IsRepliedFor state line answer now.1 = record { reply = refl; unbeaten = unbeaten; exchange = same; kept = kept } in
+      let told : IsRepliedFor state line answer now.1 = record { reply = refl; uncounted = none; exchange = same; kept = kept } in
       record {
         answer = replied answer;
         told = told;
@@ -183,6 +185,11 @@ module _ (state : ProposingState) (line : InputLine) (sound : IsSound state) whe
         replies = λ more. refl;
         end = same;
       }
+
+  -- where it clears and settles nothing, what is kept stays
+  pub unended_told : (now : List ℕ × ProposingState) → now.0 ≡ reply_line line.number run_reply.0 ++ 10 ∷ [] → now.1.exchange ≡ run_reply.1 → now.1.kept ≡ state.kept
+      → ended_by run_reply.0 ≡ None → Told now
+  unended_told now text same kept none = replied_told now text same (kept ∙ sym (ap (after_end state.kept) none)) (uncounted state run_reply.0 none)
 
   -- an outcome that is charged covers as its proposal does
   pub charged_covered : (batch : Batch) (better : BoundedOutcome) → IsCovered batch (as_outcome better.proposal) → IsCovered batch (charged better)
@@ -223,15 +230,18 @@ module _ (state : ProposingState) (line : InputLine) (sound : IsSound state) whe
       }
 
   -- ---- by what it says
-  -- a command that clears nothing
-  command_told : (c : Command) → said_in SERVED line.bytes ≡ Ok (asks.Command c) → IsUnbeaten state (step state.exchange c).0 → Told (other_line line.number state (Ok (asks.Command c)))
-  command_told c is unbeaten =
+  -- what the reply to a command clears or settles is known before it
+  ended_by_run : (c : Command) → body_of_line line.bytes ≡ body.Command c → ended_by run_reply.0 ≡ ended_in state.exchange c
+  ended_by_run c says_it = ap (λ (b : Body). ended_by (reply_to state.exchange b).0) says_it ∙ ends_are_told state.exchange c
+
+  -- a command that clears and settles nothing
+  command_told : (c : Command) → said_in SERVED line.bytes ≡ Ok (asks.Command c) → ended_in state.exchange c ≡ None → Told (other_line line.number state (Ok (asks.Command c)))
+  command_told c is none =
       let now = other_line line.number state (Ok (asks.Command c)) in
       let says = command_to_run SERVED line.bytes c is in
       elim (said_as_run line.number state.exchange (body_of_line line.bytes) (Ok (asks.Command c)) (λ other same. says ∙ ap body_of_said same)) [
         | inl is ↦
-            replied_told now (ap (λ (r : List ℕ × ExchangeState). r.0) is) (ap (λ (r : List ℕ × ExchangeState). r.1) is) refl
-            (subst (λ (b : Body). IsUnbeaten state (reply_to state.exchange b).0) (sym says) unbeaten)
+            unended_told now (ap (λ (r : List ℕ × ExchangeState). r.0) is) (ap (λ (r : List ℕ × ExchangeState). r.1) is) refl (ended_by_run c says ∙ none)
         | inr is ↦ beside_told now (inl is.0) is.1 refl
       ]
 
@@ -241,9 +251,22 @@ module _ (state : ProposingState) (line : InputLine) (sound : IsSound state) whe
       answered : Told (other_line line.number state said)
       answered = elim other.says [
         | inl command ↦
-            subst (λ said. Told (other_line line.number state said)) (sym command.1) (command_told command.0 (is ∙ command.1) (command.2 state))
+            subst (λ said. Told (other_line line.number state said)) (sym command.1) (command_told command.0 (is ∙ command.1) (command.2 state.exchange))
         | inr none ↦ let told = said_beside line.number state.exchange said none in beside_told (other_line line.number state said) (inl told.0) told.1 refl
       ]
+
+  settle_told : (market count : ℕ) (prices : List ℕ) → body_of_line line.bytes ≡ body.Command (Settle market count prices)
+      → Told (written_reply line.number (settlement_reply state market count prices))
+  settle_told market count prices says_settle =
+      let command = Settle market count prices in
+      replied_told (written_reply line.number (settlement_reply state market count prices))
+      (ap (λ (b : Body). reply_line line.number (reply_to state.exchange b).0 ++ 10 ∷ []) (sym says_settle)) (ap (λ (b : Body). (reply_to state.exchange b).1) (sym says_settle))
+      (ap (after_end state.kept) (sym (ended_by_run command says_settle)))
+      (subst (λ (b : Body). IsUncounted state (reply_to state.exchange b).0) (sym says_settle) (by (refusal_of state.exchange command)))
+    where
+      by : (r : Option Refusal) → IsUncounted state (option_map_or (refusal_effect state.exchange) r (settle_effect state.exchange market (take count prices))).0
+      by None = tt
+      by (Some first) = tt
 
   clear_told : (market budget : ℕ) → body_of_line line.bytes ≡ body.Command (Clear market budget) → Told (written_reply line.number (clear_reply state market budget))
   clear_told market budget says_clear = by (refusal_of state.exchange (Clear market budget)) refl
@@ -256,11 +279,11 @@ module _ (state : ProposingState) (line : InputLine) (sound : IsSound state) whe
       -- what is told is the run's
       as_run : (r : Option Refusal) → refusal_of state.exchange (Clear market budget) ≡ r → (now : List ℕ × ProposingState)
           → (let run = option_map_or (refusal_effect state.exchange) r (clear_effect state.exchange market budget) in
-          now.0 ≡ reply_line line.number run.0 ++ 10 ∷ [] → now.1.exchange ≡ run.1 → now.1.kept ≡ state.kept → IsUnbeaten state run.0 → Told now)
-      as_run r is now text same kept unbeaten =
+          now.0 ≡ reply_line line.number run.0 ++ 10 ∷ [] → now.1.exchange ≡ run.1 → now.1.kept ≡ after_end state.kept (ended_by run.0) → IsUncounted state run.0 → Told now)
+      as_run r is now text same kept none =
           replied_told now (text ∙ ap (λ (r : Reply × ExchangeState). reply_line line.number r.0 ++ 10 ∷ []) (sym (run_is r is)))
-          (same ∙ ap (λ (r : Reply × ExchangeState). r.1) (sym (run_is r is))) kept
-          (subst (λ (r : Reply × ExchangeState). IsUnbeaten state r.0) (sym (run_is r is)) unbeaten)
+          (same ∙ ap (λ (r : Reply × ExchangeState). r.1) (sym (run_is r is))) (kept ∙ ap (λ (r : Reply × ExchangeState). after_end state.kept (ended_by r.0)) (sym (run_is r is)))
+          (subst (λ (r : Reply × ExchangeState). IsUncounted state r.0) (sym (run_is r is)) none)
 
       by_better : refusal_of state.exchange (Clear market budget) ≡ None → (better : Option BoundedOutcome) → better_in state market budget ≡ better
           → IsClearedAs state market (reference_in state market budget) better → Told (written_reply line.number (cleared_by state market budget better))
@@ -277,6 +300,7 @@ module _ (state : ProposingState) (line : InputLine) (sound : IsSound state) whe
       by_kind (λ said. said_in SERVED line.bytes ≡ said → Told (served_line line.number state line.bytes said))
       (λ request is. proposal_told request is (proposed_of line.bytes request) refl)
       (λ market budget is. clear_told market budget (command_to_run SERVED line.bytes (Clear market budget) is))
+      (λ market count prices is. settle_told market count prices (command_to_run SERVED line.bytes (Settle market count prices) is))
       (λ market is. told_beside (book_reply state.exchange market) (book_beside state.exchange market))
       (λ account market is. told_beside (positions_reply state.exchange account market) (positions_beside state.exchange account market))
       (λ request is. told_beside (trial_reply state.exchange request) (trial_beside state.exchange request))

@@ -18,7 +18,6 @@ use Rattle.exchange_core.specs.Refusals.{refusal_of}
 use Rattle.exchange_core.specs.Step.{balance_effect, refusal_effect}
 use Rattle.guarded_lines.specs.Output as guarded
 use Rattle.guarded_lines.specs.Replies.{guarded_reply_to}
-use Rattle.reply_print.specs.declared.replies.Reply.{Reply}
 use Rattle.proposal_lines.specs.AllKinds.{said_line}
 use Rattle.proposal_lines.specs.Asked.{is_told, told_line}
 use Rattle.proposal_lines.specs.Output.{other_line}

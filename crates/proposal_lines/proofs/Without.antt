@@ -1,10 +1,11 @@
 -- Where nothing is proposed, the replies are those of an exchange that takes no proposals.
-use Rattle.std.proofs.Common.{◌≡◌, ℕ, List, [], ◌∷◌, ◌++◌, All, map, Option, Some, None, Result, Ok, option_and_then, refl, sym, ap, ◌∙◌}
+use Rattle.std.proofs.Common.{◌≡◌, ℕ, List, [], ◌∷◌, ◌++◌, All, map, Option, Some, None, Result, Ok, refl, sym, ap, ◌∙◌}
 use Rattle.std.specs.Option.{option_map_or}
+use Rattle.auction_phases.specs.Phases.{ended_in}
 use Rattle.std.proofs.lemmas.List.Elements.{All-head, All-tail}
 use Rattle.cert_check.specs.declared.outcome.Outcome.{Outcome}
 use Rattle.command_text.specs.declared.asked.Fault.{Fault}
-use Rattle.command_text.specs.declared.command.Command.TheVariants.{Clear}
+use Rattle.command_text.specs.declared.command.Command.TheVariants.{Clear, Settle}
 use Rattle.command_text.specs.declared.lines.RawLine.{RawLine}
 use Rattle.command_text.specs.declared.requests.ProposeRequest.{ProposeRequest}
 use Rattle.command_text.specs.declared.requests.Request.{Request}
@@ -15,18 +16,21 @@ use Rattle.command_text.specs.Said.{said_in}
 use Rattle.exchange_core.specs.declared.refusal.Refusal.{Refusal}
 use Rattle.exchange_core.specs.ExchangeState.{ExchangeState, empty_exchange}
 use Rattle.exchange_core.specs.Refusals.{refusal_of}
-use Rattle.exchange_core.specs.Step.{clear_effect, refusal_effect}
+use Rattle.exchange_core.specs.Step.{clear_effect, refusal_effect, step}
 use Rattle.exchange_lines.specs.LineSteps.{InputLine, input_line}
 use Rattle.exchange_lines.specs.Output.{written_line}
 use Rattle.live_lines.specs.Output.{places_output}
 use Rattle.proposal_text.specs.declared.replies.RunStop.{RunStop}
+use Rattle.reply_print.specs.declared.replies.Reply.{Reply}
 use Rattle.proposal_lines.specs.AllKinds.{said_line}
 use Rattle.proposal_lines.specs.Clears.{better_in, clear_reply, cleared_by, reference_in}
-use Rattle.proposal_lines.specs.KeptByMarket.{if_above, stop_of}
-use Rattle.proposal_lines.specs.Output.{proposing_line, served_line, written_reply}
+use Rattle.proposal_lines.specs.KeptByMarket.{after_end, stop_of}
+use Rattle.proposal_lines.specs.Output.{proposing_line, served_line, settlement_reply, written_reply}
 use Rattle.proposal_lines.specs.Promises.{ProposesNothing, WithoutProposals, reading_line, reading_said}
 use Rattle.proposal_lines.specs.ProposingState.{ProposingState, state_of}
 use Rattle.proposal_lines.specs.Reads.{refused_by}
+use Rattle.proposal_lines.specs.declared.replies.ProposingReply.TheVariants.{Plain}
+use Rattle.proposal_lines.proofs.Clearing.{bounded_where}
 use Rattle.proposal_lines.proofs.SaidKinds.{by_kind}
 
 -- nothing is kept
@@ -37,7 +41,7 @@ alone exchange = state_of exchange []
 abbrev with_none : List ℕ × ExchangeState → List ℕ × ProposingState
 with_none now = (now.0, alone now.1)
 
-none_better : (outcome : Outcome) (run : Option RunStop) → option_and_then (λ run. option_and_then (if_above outcome run) None) run ≡ None
+none_better : (outcome : Outcome) (run : Option RunStop) → bounded_where outcome run None ≡ None
 none_better outcome None = refl
 none_better outcome (Some run) = refl
 
@@ -59,6 +63,18 @@ clear_alone number exchange market budget =
     by None = refl
     by (Some first) = refl
 
+-- a settlement
+settle_alone : (number : ℕ) (exchange : ExchangeState) (market count : ℕ) (prices : List ℕ)
+    → written_reply number (settlement_reply (alone exchange) market count prices) ≡ with_none (said_line number exchange (Ok (asks.Command (Settle market count prices))))
+settle_alone number exchange market count prices = by (ended_in exchange (Settle market count prices))
+  where
+    now : Reply × ExchangeState
+    now = step exchange (Settle market count prices)
+
+    by : (ended : Option ℕ) → written_reply number (Plain now.0, state_of now.1 (after_end [] ended)) ≡ with_none (written_line number now)
+    by None = refl
+    by (Some ended) = refl
+
 -- what is said, which is no proposal
 said_alone : (number : ℕ) (exchange : ExchangeState) (line : List ℕ) (said : Result Request Fault) → ((request : ProposeRequest) → said ≡ Ok (asks.Propose request) → ⊥)
     → served_line number (alone exchange) line said ≡ with_none (reading_said number exchange said)
@@ -66,6 +82,7 @@ said_alone number exchange line =
     by_kind (λ said. ((request : ProposeRequest) → said ≡ Ok (asks.Propose request) → ⊥) → served_line number (alone exchange) line said ≡ with_none (reading_said number exchange said))
     (λ request none. absurd (none request refl))
     (λ market budget none. clear_alone number exchange market budget)
+    (λ market count prices none. settle_alone number exchange market count prices)
     (λ market none. refl)
     (λ account market none. refl)
     (λ request none. refl)

@@ -1,5 +1,6 @@
 -- What lines are told where proposals are taken.
 use Rattle.std.specs.Prelude.{ℕ, ◌≡◌, ◌+◌, ◌⊎◌, ⊤, List, [], ◌∷◌, ◌++◌, Some, None, Ok}
+use Rattle.auction_phases.specs.Phases.{ended_by}
 use Rattle.proposal_check.specs.Proposals.{proposal_bound}
 use Rattle.frac.specs.Range.{limit}
 use Rattle.frac.specs.Value.{fraction_of}
@@ -37,8 +38,8 @@ use Rattle.proposal_text.specs.declared.replies.ProposalReply.{ProposalReply}
 use Rattle.proposal_text.specs.declared.replies.ProposalReply.TheVariants as told
 use Rattle.reply_print.specs.ReplyPieces.{reply_line}
 use Rattle.proposal_lines.specs.Clears.{better_in}
-use Rattle.proposal_lines.specs.KeptByMarket.{with_kept, without_kept}
-use Rattle.proposal_lines.specs.Laws.{NoneIsAbove}
+use Rattle.proposal_lines.specs.KeptByMarket.{after_end, with_kept, without_kept}
+use Rattle.proposal_lines.specs.Laws.{NoneCounts}
 use Rattle.proposal_lines.specs.Output.{proposing_line}
 use Rattle.proposal_lines.specs.declared.proposed.Proposed.{Proposed}
 use Rattle.proposal_lines.specs.Proposed.{after_proposed, proposed_of, told_bound}
@@ -110,15 +111,15 @@ IsBesideProposals number text = IsBesideText number text ⊎ IsToldText number t
 
 -- ---- of an input
 -- the answer is a run's to what the line says. Where it clears a batch whose run stopped, nothing
--- that counts covers more than the match
+-- is kept that counts; where it clears or settles a market, what is kept for it is let go of
 pub record IsRepliedFor (state : ProposingState) (line : InputLine) (answer : Answer) (after : ProposingState) : Type 0 where
   pub reply : answer ≡ answer_to state.exchange (line_of line)
-  pub unbeaten : IfClears (λ number market batch outcome. NoneIsAbove state market outcome) answer.reply
+  pub uncounted : IfClears (λ number market batch outcome. NoneCounts state market outcome) answer.reply
   pub exchange : after.exchange ≡ (reply_to state.exchange (body_of_line line.bytes)).1
-  pub kept : after.kept ≡ state.kept
+  pub kept : after.kept ≡ after_end state.kept (ended_by answer.reply)
 
 -- the line says to clear the market within the budget, and it is not refused; the market's batch is
--- cleared as what is kept has it
+-- cleared with what takes the place of the run's outcome, and what is kept for it is let go of
 pub record IsBoundedFor (state : ProposingState) (line : InputLine) (answer : BoundedAnswer) (after : ProposingState) : Type 0 where
   pub of_line : answer.line ≡ line.number
   pub says : body_of_line line.bytes ≡ Command (Clear answer.market answer.budget)

@@ -19,16 +19,16 @@ use Rattle.proposal_lines.specs.declared.replies.ProposingReply.TheVariants.{Pla
 abbrev pub reference_in : ProposingState → ℕ → ℕ → Outcome
 reference_in state market budget = outcome_of (batch_in state.exchange market) budget
 
--- what takes the place of an outcome of the market's batch: what is kept for just the live orders,
--- where the run stopped and the kept surplus is above that of the outcome, which is the match then
+-- what takes the place of an outcome of the market's batch, where the run stopped and something is
+-- kept for just the live orders: that, or the outcome, which is the match then, whichever covers
+-- more, with the bound that is kept
 abbrev pub better_than : ProposingState → ℕ → Outcome → Option BoundedOutcome
 better_than state market outcome = bounded_in market (numbers_of (batch_in state.exchange market).orders) outcome state.kept
 
 abbrev pub better_in : ProposingState → ℕ → ℕ → Option BoundedOutcome
 better_in state market budget = better_than state market (reference_in state market budget)
 
--- it is charged as any outcome is. What is kept for these orders is let go, which no reply shows:
--- their numbers are never given again, so it could never count
+-- it is charged as any outcome is, and what is kept for the market is let go of
 abbrev pub bounded_effect : ProposingState → ℕ → BoundedOutcome → ProposingReply × ProposingState
 bounded_effect state market outcome = (
   Told (told.Bounded (state.exchange.book.finished + 1) market (batch_in state.exchange market) outcome),
@@ -37,7 +37,7 @@ bounded_effect state market outcome = (
 
 abbrev pub reference_effect : ProposingState → ℕ → Outcome → ProposingReply × ProposingState
 reference_effect state market outcome =
-    let now = cleared_as state.exchange market outcome in (Plain now.0, record state { exchange = now.1 })
+    let now = cleared_as state.exchange market outcome in (Plain now.0, state_of now.1 (without_kept market state.kept))
 
 -- an outcome is charged, or what takes its place
 abbrev pub charge_effect : ProposingState → ℕ → Outcome → Option BoundedOutcome → ProposingReply × ProposingState

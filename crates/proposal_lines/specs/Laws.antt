@@ -15,7 +15,6 @@ use Rattle.order_book.specs.Numbers.{numbers_of}
 use Rattle.proposal_text.specs.declared.replies.BoundedOutcome.{BoundedOutcome}
 use Rattle.proposal_text.specs.declared.replies.AccountReply.TheVariants as account
 use Rattle.proposal_text.specs.declared.replies.ProposalReply.TheVariants as told
-use Rattle.proposals.specs.Best.{surplus_of}
 use Rattle.proposals.specs.declared.best.Best.{Best}
 use Rattle.proposal_lines.specs.Clears.{better_in, reference_in}
 use Rattle.proposal_lines.specs.KeptByMarket.{best_in, stop_of}
@@ -35,28 +34,26 @@ pub record IsSound (state : ProposingState) : Type 0 where
 abbrev pub IsMatch : Batch → Outcome → Type 0
 IsMatch batch outcome = outcome ≡ fallback batch.orders outcome.mark outcome.units
 
--- the proposal proves its bound for the batch, whose reference run stopped, and its surplus is
--- above that of the match
+-- the proposal proves its bound for the batch, whose reference run stopped, and its surplus is not
+-- below that of the match
 pub record IsBetter (batch : Batch) (reference : Outcome) (better : BoundedOutcome) : Type 0 where
   pub proves : Proves batch better.proposal (fraction_of better.bound)
   pub stopped : stop_of reference.mark ≡ Some better.run
   pub units : better.units ≡ reference.units
   pub matched : IsMatch batch reference
-  pub above : ¬ (AtMost (fraction_of better.proposal.claim.surplus) (fraction_of reference.claim.surplus))
+  pub no_less : AtMost (fraction_of reference.claim.surplus) (fraction_of better.proposal.claim.surplus)
 
 -- what is kept for the live orders of a market: it counts
 abbrev pub counted_in : ProposingState → ℕ → Option Best
 counted_in state market = best_in market (numbers_of (batch_in state.exchange market).orders) state.kept
 
--- where the reference run stopped, its outcome is the match, and nothing that counts covers more
-abbrev pub NoneIsAbove : ProposingState → ℕ → Outcome → Type 0
-NoneIsAbove state market reference =
-    IfSome (stop_of reference.mark) (λ run.
-    IsMatch (batch_in state.exchange market) reference
-    × IfSome (counted_in state market) (λ best. AtMost (surplus_of best.covered) (fraction_of reference.claim.surplus)))
+-- where the reference run stopped, its outcome is the match, and nothing is kept that counts
+abbrev pub NoneCounts : ProposingState → ℕ → Outcome → Type 0
+NoneCounts state market reference =
+    IfSome (stop_of reference.mark) (λ run. IsMatch (batch_in state.exchange market) reference × (counted_in state market ≡ None))
 
 abbrev pub IsClearedAs : ProposingState → ℕ → Outcome → Option BoundedOutcome → Type 0
-IsClearedAs state market reference None = NoneIsAbove state market reference
+IsClearedAs state market reference None = NoneCounts state market reference
 IsClearedAs state market reference (Some better) = IsBetter (batch_in state.exchange market) reference better
 
 -- so is each clear that is not refused

@@ -13,5 +13,6 @@ pub mod Answers
 pub mod UsesBest
 pub mod Promises
 pub mod LaterClears
+pub mod LettingGo
 pub mod Reading
 pub mod Asked

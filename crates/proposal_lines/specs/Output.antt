@@ -1,7 +1,8 @@
 -- What is written for a line where proposals are taken.
 use Rattle.std.specs.Prelude.{ℕ, List, [], ◌∷◌, ◌++◌, Result, Ok}
 use Rattle.command_text.specs.declared.asked.Fault.{Fault}
-use Rattle.command_text.specs.declared.command.Command.TheVariants.{Clear, Withdraw}
+use Rattle.auction_phases.specs.Phases.{ended_in}
+use Rattle.command_text.specs.declared.command.Command.TheVariants.{Clear, Settle, Withdraw}
 use Rattle.command_text.specs.declared.requests.Request.{Request}
 use Rattle.command_text.specs.declared.requests.Request.TheVariants.{Command, Book, Positions, Propose, Try}
 use Rattle.command_text.specs.declared.words.TheConstants.{SERVED}
@@ -11,8 +12,9 @@ use Rattle.proposal_text.specs.Pieces.{proposal_line}
 use Rattle.reply_print.specs.ReplyPieces.{reply_line}
 use Rattle.proposal_lines.specs.AllKinds.{said_line}
 use Rattle.proposal_lines.specs.Clears.{clear_reply}
+use Rattle.proposal_lines.specs.KeptByMarket.{after_end}
 use Rattle.proposal_lines.specs.Proposed.{proposed_of, proposed_reply}
-use Rattle.proposal_lines.specs.ProposingState.{ProposingState}
+use Rattle.proposal_lines.specs.ProposingState.{ProposingState, state_of}
 use Rattle.proposal_lines.specs.Reads.{book_reply, positions_reply}
 use Rattle.proposal_lines.specs.Trials.{trial_reply}
 use Rattle.proposal_lines.specs.declared.replies.ProposingReply.{ProposingReply}
@@ -38,10 +40,17 @@ withdrawal_reply state account amount =
 abbrev pub withdrawal_line : ℕ → ProposingState → ℕ → ℕ → List ℕ × ProposingState
 withdrawal_line number state account amount = written_reply number (withdrawal_reply state account amount)
 
+-- a market is settled as a run settles it, and then what is kept for it is let go of
+abbrev pub settlement_reply : ProposingState → ℕ → ℕ → List ℕ → ProposingReply × ProposingState
+settlement_reply state market count prices =
+    let now = step state.exchange (Settle market count prices) in
+    (Plain now.0, state_of now.1 (after_end state.kept (ended_in state.exchange (Settle market count prices))))
+
 -- what is written for a line of these bytes that says this, and the state after it
 abbrev pub served_line : ℕ → ProposingState → List ℕ → Result Request Fault → List ℕ × ProposingState
 served_line number state line (Ok (Propose request)) = written_reply number (proposed_reply state (proposed_of line request))
 served_line number state line (Ok (Command (Clear market budget))) = written_reply number (clear_reply state market budget)
+served_line number state line (Ok (Command (Settle market count prices))) = written_reply number (settlement_reply state market count prices)
 served_line number state line (Ok (Book market)) = written_reply number (book_reply state.exchange market, state)
 served_line number state line (Ok (Positions account market)) = written_reply number (positions_reply state.exchange account market, state)
 served_line number state line (Ok (Try request)) = written_reply number (trial_reply state.exchange request, state)

@@ -1,5 +1,5 @@
 -- What is promised of the bytes that are written where proposals are taken.
-use Rattle.std.specs.Prelude.{ℕ, ◌≡◌, ⊤, List, [], ◌∷◌, ◌++◌, true, Result, Ok}
+use Rattle.std.specs.Prelude.{ℕ, ◌≡◌, ⊤, List, [], ◌∷◌, true, Ok}
 use Rattle.std.specs.List.{All}
 use Rattle.proposal_check.specs.ProposalLaws.{Proves}
 use Rattle.frac.specs.Value.{fraction_of}
@@ -7,13 +7,11 @@ use Rattle.proposals.specs.Laws.{as_proposal}
 use Rattle.cert_check.specs.declared.outcome.Mark.TheVariants.{Budget}
 use Rattle.cert_check.specs.declared.outcome.Outcome.{Outcome}
 use Rattle.clearing.specs.Outcome.{outcome_of}
-use Rattle.command_text.specs.declared.asked.Fault.{Fault}
-use Rattle.exchange_core.specs.ExchangeState.{ExchangeState, empty_exchange}
+use Rattle.exchange_core.specs.ExchangeState.{empty_exchange}
 use Rattle.exchange_lines.specs.LineSteps.{InputLine, input_lines}
 use Rattle.exchange_lines.specs.Promises.{KeepsPromises}
 use Rattle.command_text.specs.Said.{said_in}
 use Rattle.command_text.specs.declared.requests.ProposeRequest.{ProposeRequest}
-use Rattle.command_text.specs.declared.requests.Request.{Request}
 use Rattle.command_text.specs.declared.requests.Request.TheVariants as asks
 use Rattle.command_text.specs.declared.words.TheConstants.{SERVED}
 use Rattle.exchange_lines.specs.GainRuns.{HouseGains}

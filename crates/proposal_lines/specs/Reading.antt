@@ -1,6 +1,5 @@
 -- What is written where no proposals are taken: a line that reads or tries is told what it asks
--- for, and any
--- other is answered as ever.
+-- for, and any other is answered as ever.
 use Rattle.std.specs.Prelude.{ℕ, List, [], ◌∷◌, ◌++◌, Result, Ok}
 use Rattle.command_text.specs.declared.asked.Fault.{Fault}
 use Rattle.command_text.specs.declared.requests.Request.{Request}

@@ -1,14 +1,15 @@
 // An exchange that answers all lines and takes proposals.
 ghost use Rattle.std.specs.Prelude.{◌≡◌, ◌≤◌, IfOk, false, length, Some};
 ghost use Rattle.std.specs.Option.{option_map};
-ghost use Rattle.command_text.specs.Within.{IsAccount, IsAmount, IsBudget, IsInside, RequestIsWithin};
+ghost use Rattle.command_text.specs.Within.{IsAccount, IsAmount, IsBudget, IsInside, IsWithin, RequestIsWithin};
+ghost use Rattle.command_text.specs.declared.command.Command.TheVariants as Command;
 ghost use Rattle.exchange_core.specs.Kept.{IsKept};
 ghost use Rattle.form.specs.Limits.{IsWithinLimits};
 ghost use Rattle.live_lines.specs.Answering.{by_step};
 ghost use Rattle.order_book.specs.Book.{batch_of, market_of};
 ghost use Rattle.proposal_lines.specs.Asked.{is_told};
 ghost use Rattle.proposal_lines.specs.Clears.{clear_reply};
-ghost use Rattle.proposal_lines.specs.Output.{other_line, proposing_line, served_line, withdrawal_line, withdrawal_reply, written_reply};
+ghost use Rattle.proposal_lines.specs.Output.{other_line, proposing_line, served_line, settlement_reply, withdrawal_line, withdrawal_reply, written_reply};
 ghost use Rattle.proposal_lines.specs.Proposed.{proposed_by, proposed_of, proposed_reply};
 ghost use Rattle.proposal_lines.specs.ProposingState.{empty_state};
 ghost use Rattle.proposal_lines.specs.Reading.{reading_beside};
@@ -19,6 +20,7 @@ use crate::judging::judge;
 use crate::kept_by_market::KeptByMarket;
 use crate::proposed::{Proposed, proposed_of};
 use crate::replies::{ProposingReply, print_line, refused, refused_by_fault};
+use auction_phases::ended_in;
 use command_text::asked::Fault;
 use command_text::words::SERVED;
 use command_text::{Command, ProposeRequest, Request, read_line};
@@ -30,8 +32,10 @@ use std::marker::Model;
 
 /// An exchange that answers all lines, each as the next one of an input, and takes proposals. A
 /// clear whose reference run stops is charged as the proposals that are kept for the live orders
-/// have it, where they cover more than the match; any other as where nothing is proposed. A line
-/// that proposes something or reads leaves accounts, markets and positions as they are.
+/// have it, or as the match where it covers as much, and told with the bound that is kept; any
+/// other as where nothing is proposed. A clear and a settlement let go of what is kept for their
+/// market. A line that proposes something or reads leaves accounts, markets and positions as they
+/// are.
 #[derive(Drop)]
 pub struct ProposalLines {
     exchange: Exchange,
@@ -148,6 +152,45 @@ impl ProposalLines {
         print_line(alloc, number, &reply)
     }
 
+    // Settles a market, where nothing refuses it, and lets go of what is kept for it.
+    fn settle(
+        &mut self,
+        market: u32,
+        count: u8,
+        prices: [u32; 8],
+    ) -> Result<ProposingReply, AllocError>
+        requires { IsWithin (Command.Settle market count prices) }
+        ensures { IfOk result (λ reply.
+            (reply, self.new) ≡ settlement_reply self.old market count prices) }
+    {
+        let command = Command::Settle {
+            market,
+            count,
+            prices,
+        };
+        let ended = ended_in(&self.exchange, &command);
+        let reply = self.exchange.step(&command)?;
+        self.kept.after_end(ended);
+        Ok(ProposingReply::Plain(reply))
+    }
+
+    // The answer to a line that settles a market.
+    fn answer_settlement(
+        &mut self,
+        alloc: Global,
+        number: u32,
+        market: u32,
+        count: u8,
+        prices: [u32; 8],
+    ) -> Result<Vec<u8>, AllocError>
+        requires { IsWithin (Command.Settle market count prices) }
+        ensures { IfOk result (λ text. (text.items, self.new)
+            ≡ written_reply number (settlement_reply self.old market count prices)) }
+    {
+        let reply = self.settle(market, count, prices)?;
+        print_line(alloc, number, &reply)
+    }
+
     // The answer of an exchange that takes no proposals. Where memory is refused nothing is kept.
     fn answer_other(
         &mut self,
@@ -240,6 +283,15 @@ impl ProposalLines {
             Ok(Request::Command(Command::Clear { market, budget })) => {
                 self.answer_clear(alloc, number, market, budget)
             }
+            Ok(
+                Request::Command(
+                    Command::Settle {
+                        market,
+                        count,
+                        prices,
+                    },
+                ),
+            ) => self.answer_settlement(alloc, number, market, count, prices),
             said => self.answer_beside(alloc, number, said),
         }
     }

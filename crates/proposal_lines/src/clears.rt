@@ -24,8 +24,9 @@ use form::Batch;
 use proposal_text::ProposalReply;
 use std::alloc::{AllocError, Global};
 
-// Charges an outcome of the batch of a market, or what is kept for its orders, where the run
-// stopped and this covers more. Want of memory may lose what is kept for the market.
+// Charges an outcome of the batch of a market, or what takes its place, where the run stopped and
+// something is kept for just its orders. What is kept for the market is let go of; so it may be
+// where memory is wanting.
 fn charge(
     alloc: Global,
     exchange: &mut Exchange,
@@ -46,8 +47,8 @@ fn charge(
     ensures proved { AreProvedIn exchange.new.book kept.new }
 {
     let numbers = numbers_of(alloc, batch.orders.as_slice())?;
-    match kept.take_better(market, &numbers, &outcome) {
-        Some(better) => {
+    match kept.take_bounded(alloc, market, &numbers, outcome) {
+        Ok(better) => {
             let number = exchange.clear_as(market, &batch, &better.proposal.fills)?;
             Ok(ProposingReply::Told(ProposalReply::Bounded {
                 number,
@@ -56,7 +57,7 @@ fn charge(
                 outcome: better,
             }))
         }
-        None => {
+        Err(outcome) => {
             let number = exchange.clear_as(market, &batch, &outcome.fills)?;
             Ok(ProposingReply::Plain(Reply::Cleared {
                 number,
@@ -68,8 +69,9 @@ fn charge(
     }
 }
 
-// Clears a market within a work budget: by the reference run, or where it stops, as what is kept
-// for the live orders has it, if that covers more than the match. A refusal changes nothing.
+// Clears a market within a work budget: by the reference run, or where it stops and something is
+// kept for the live orders, as that has it or as the match, whichever covers more, with the bound
+// that is kept. What is kept for the market is let go of. A refusal changes nothing.
 pub(crate) fn clear(
     alloc: Global,
     exchange: &mut Exchange,

@@ -1,8 +1,8 @@
 //! The answers to all lines: those of a run, quotes and margins, and withdrawals that leave an
 //! account what its positions demand; and, where proposals are taken, lines that read a market's
-//! live orders or an account's positions, lines that propose fills for a market, and clears. A
-//! clear is charged as the best proposals for the live orders have it where the reference run stops
-//! and they cover more than the match.
+//! live orders or an account's positions, lines that propose fills for a market, and clears. Where
+//! the reference run stops and something was proposed for the live orders, a clear is told with a
+//! bound, and charged as the best proposals have it or as the match, whichever covers more.
 #![tactic(auto)]
 
 pub mod all_kinds_laws;

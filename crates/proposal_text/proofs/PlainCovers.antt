@@ -7,10 +7,10 @@ use Rattle.cell_cover.specs.declared.cover.Node.{Node}
 use Rattle.cell_cover.specs.declared.cover.Node.TheVariants.{Split, Bound, Leaf}
 use Rattle.proposal_check.specs.declared.covers.ProposalCover.{ProposalCover}
 use Rattle.proposal_check.specs.declared.covers.ProposalCover.TheVariants.{Checked, Match, Cells}
-use Rattle.reply_print.specs.BatchPieces.{natural, pieces_of}
+use Rattle.reply_print.specs.BatchPieces.{natural}
 use Rattle.reply_print.specs.Piece.{Fields}
-use Rattle.reply_print.proofs.PlainPieces.{HasPlainTexts, HavePlainTexts, HasPlainFields, each_plain, fraction_plain, certificate_plain}
-use Rattle.proposal_text.specs.CoverPieces.{cell_piece, flat_pieces, full_field, multipliers_piece, proof_piece}
+use Rattle.reply_print.proofs.PlainPieces.{HasPlainTexts, HasPlainFields, each_plain, fraction_plain, certificate_plain}
+use Rattle.proposal_text.specs.CoverPieces.{cell_piece, full_field, multipliers_piece, proof_piece}
 
 flat_plain : (ms : List Multiplier) → HasPlainTexts (multipliers_piece ms)
 flat_plain [] = tt

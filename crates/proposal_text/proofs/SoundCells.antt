@@ -1,5 +1,5 @@
 -- Cells that are taken out are within their ranges.
-use Rattle.std.proofs.Common.{◌≡◌, ℕ, List, ◌∷◌, true, ◌&&◌, nat_lt, nat_le, length, Some, option_and_then, codes, refl, arith}
+use Rattle.std.proofs.Common.{◌≡◌, ℕ, List, ◌∷◌, true, ◌&&◌, nat_lt, nat_le, length, option_and_then, codes, refl, arith}
 use Rattle.std.specs.Prelude.{⊤}
 use Rattle.std.specs.List.{AllByRecursion}
 use Rattle.std.proofs.lemmas.Bool.{and_from, and_parts, leb-true, ltb-true}

@@ -1,22 +1,21 @@
 -- Cells within their ranges are written as such, and taken out again.
-use Rattle.std.proofs.Common.{◌≡◌, ℕ, ◌<◌, ◌^◌, List, [], ◌∷◌, Bool, true, ◌&&◌, nat_lt, nat_le, length, Some, option_map, option_and_then, refl, ap, ◌∙◌, arith}
-use Rattle.std.specs.List.{AllByRecursion}
-use Rattle.std.proofs.lemmas.Bool.{and_from, and_parts, le-leb, leb-true, lt-ltb, or_left, or_right}
+use Rattle.std.proofs.Common.{◌≡◌, ℕ, ◌<◌, ◌^◌, List, [], ◌∷◌, true, ◌&&◌, nat_lt, nat_le, length, Some, option_map, refl, ap, ◌∙◌, arith}
+use Rattle.std.proofs.lemmas.Bool.{and_from, and_parts, le-leb, leb-true, lt-ltb, or_left}
 use Rattle.form.specs.Between.{Between}
 use Rattle.cell_cover.specs.Cells.{classes_rise}
 use Rattle.cell_cover.specs.declared.cover.Multiplier.{Multiplier}
 use Rattle.cell_cover.specs.declared.cover.Node.{Node}
 use Rattle.cell_cover.specs.declared.cover.Node.TheVariants.{Split, Bound, Leaf}
 use Rattle.reply_print.specs.BatchPieces.{natural, pieces_of}
-use Rattle.reply_print.specs.Look.{is_list, is_whole, items_all}
+use Rattle.reply_print.specs.Look.{is_whole, items_all}
 use Rattle.reply_print.specs.PieceData.{piece_data, pieces_data}
 use Rattle.reply_print.specs.Written.{IsWritten, AreWritten}
 use Rattle.reply_print.proofs.PlainPieces.{fraction_plain}
 use Rattle.reply_print.proofs.WrittenReplies.{each_written, short}
 use Rattle.reply_text.proofs.Taken.{fraction_number, fraction_taken, items_pass, items_taken}
 use Rattle.reply_text.proofs.TakenReplies.{then_taken}
-use Rattle.proposal_text.specs.CellRanges.{AreCellsWithin, AreClasses, IsCellWithin, classes_in, listed}
-use Rattle.proposal_text.specs.CellReading.{are_in_turn, cell_from, cell_numbers, cell_shape, cells_from, cells_numbers, cells_shape, class_from, class_of, classes_from, few_cells, full_at, is_class_or_fraction, leaf_from, multiplier_with, multipliers_from, multipliers_of}
+use Rattle.proposal_text.specs.CellRanges.{AreCellsWithin, IsCellWithin, classes_in, listed}
+use Rattle.proposal_text.specs.CellReading.{are_in_turn, cell_from, cell_numbers, cell_shape, cells_from, cells_numbers, cells_shape, class_of, classes_from, few_cells, is_class_or_fraction, multiplier_with, multipliers_from}
 use Rattle.proposal_text.specs.CoverPieces.{cell_piece, cells_piece}
 use Rattle.proposal_text.specs.declared.cells.TheConstants.{MAX_CLASS, MAX_CELLS, MAX_LISTED}
 use Rattle.proposal_text.proofs.CoverLists.{flat_of}

@@ -10,7 +10,7 @@ use Rattle.serde_json.specs.Find.{get, as_array, as_number, as_u64}
 use Rattle.reply_print.specs.Look.{has_members, has_at, is_whole, is_text, is_list}
 use Rattle.reply_print.specs.NumberTexts.{is_fraction}
 use Rattle.reply_text.specs.BatchValues.{fraction_from}
-use Rattle.reply_text.specs.Taking.{items_at, list_at, natural_at, take_at}
+use Rattle.reply_text.specs.Taking.{items_at, list_at, take_at}
 use Rattle.proposal_text.specs.CoverPieces.{is_some_class}
 use Rattle.proposal_text.specs.CellRanges.{listed}
 use Rattle.proposal_text.specs.declared.cells.TheConstants.{MAX_CLASS, MAX_CELLS, MAX_LISTED}

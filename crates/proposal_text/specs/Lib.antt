@@ -1,4 +1,5 @@
 pub mod Needs
+pub mod Counts
 pub mod CoverPieces
 pub mod CellRanges
 pub mod CellReading

@@ -2,9 +2,7 @@
 -- in place of a reply.
 use Rattle.std.specs.Prelude.{ℕ, ◌≡◌, List, length, Bool, ◌&&◌, nat_le, Option, Some, None, option_map, option_and_then, codes, if◌then◌else◌}
 use Rattle.std.specs.Result.{result_ok}
-use Rattle.frac.specs.declared.frac128.Frac128.{Frac128}
 use Rattle.form.specs.declared.limits.TheConstants.{MAX_ORDER, MAX_ORDERS}
-use Rattle.cert_check.specs.declared.outcome.Claim.{Claim}
 use Rattle.proposal_check.specs.declared.covers.Proposal.{Proposal}
 use Rattle.serde_json.specs.Data.{Data}
 use Rattle.serde_json.specs.Find.{as_number, as_u64}

@@ -2,6 +2,7 @@
 use Rattle.std.specs.Prelude.{ℕ, List, ◌≡◌, ◌≤◌, ◌<◌, ◌^◌, pos, ◌≤ℤ◌, ⊤, length, map}
 use Rattle.std.specs.List.{All, AllByRecursion}
 use Rattle.std.specs.List.Sorted.{IsStrictlyIncreasing}
+use Rattle.cert_check.specs.declared.measures.Measure.{Measure}
 use Rattle.exact_num.specs.Fraction.{AtMost, IsNotBelowZero}
 use Rattle.form.specs.declared.legs.Leg.{Leg}
 use Rattle.form.specs.declared.limits.TheConstants.{MAX_BUDGET, MAX_ORDERS}
@@ -17,6 +18,8 @@ use Rattle.proposal_check.specs.declared.covers.ProposalCover.TheVariants.{Check
 use Rattle.settlement.specs.declared.position.Position.{Position}
 use Rattle.reply_print.specs.Within.{IsLine, IsAccount, IsMarket, IsSmall, IsOrderNumber, IsBatchNumber, IsBatchWithin, IsCoverWithin, IsPointWithin}
 use Rattle.proposal_text.specs.CellRanges.{AreCellsWithin}
+use Rattle.proposal_text.specs.Counts.{IsShortCover}
+use Rattle.proposal_text.specs.declared.counts.TheConstants.{MAX_POINTS}
 use Rattle.proposal_text.specs.declared.submissions.Submission.{Submission}
 use Rattle.proposal_text.specs.declared.replies.BoundedOutcome.{BoundedOutcome}
 use Rattle.proposal_text.specs.declared.replies.AccountReply.{AccountReply}
@@ -26,13 +29,16 @@ use Rattle.proposal_text.specs.declared.replies.ProposalReply.TheVariants.{Book,
 use Rattle.proposal_text.specs.Needs.{IsNeedWithin}
 
 abbrev pub IsProposalCoverWithin : ProposalCover → Type 0
-IsProposalCoverWithin (Checked cover) = IsCoverWithin cover
+IsProposalCoverWithin (Checked cover) = IsCoverWithin cover × IsShortCover cover
 IsProposalCoverWithin Match = ⊤
 IsProposalCoverWithin (Cells nodes) = AreCellsWithin nodes
 
--- a cover and a measure of numbers of 128 bits
+-- numbers of 128 bits at not too many points
+abbrev pub IsMeasureWithin : Measure → Type 0
+IsMeasureWithin measure = (length measure.points ≤ MAX_POINTS) × AllByRecursion IsPointWithin measure.points
+
 abbrev pub IsProposalWithin : Proposal → Type 0
-IsProposalWithin proposal = IsProposalCoverWithin proposal.cover × AllByRecursion IsPointWithin proposal.measure.points
+IsProposalWithin proposal = IsProposalCoverWithin proposal.cover × IsMeasureWithin proposal.measure
 
 -- for at most 256 orders
 abbrev pub IsSubmissionWithin : Submission → Type 0

@@ -39,8 +39,8 @@ fn are_lists_short(nodes: &[Node]) -> bool
     true
 }
 
-// Whether there are not too many nodes, and not too many classes in their lists.
-pub(crate) fn are_few(nodes: &[Node]) -> bool
+/// Whether there are not too many nodes, and not too many classes in their lists.
+pub fn are_few(nodes: &[Node]) -> bool
     ensures { result ≡ (nat_le (length nodes.now) MAX_CELLS
         && nat_le (listed nodes.now) MAX_LISTED) }
 {

@@ -7,6 +7,7 @@ ghost use Rattle.proposal_text.specs.CoverReading.{has_cells as cells_are_there,
 
 use crate::cells_shape::{cells_numbers, cells_shape};
 use crate::cells_values::cells_from;
+use crate::counts::{MAX_POINTS, is_short_cover};
 use cell_cover::cover::Nodes;
 use cert_check::{Claim, Fills, Measure, Points};
 use frac::Frac128;
@@ -62,7 +63,7 @@ fn cells_at(alloc: Global, certificate: &Value) -> Result<Option<Nodes>, AllocEr
     }
 }
 
-// Cells, or a cover that a verdict knows.
+// Cells, or a cover that a verdict knows and that is not too long.
 fn written_cover_at(alloc: Global, certificate: &Value) -> Result<Option<ProposalCover>, AllocError>
     ensures { IfOk result (λ o. o ≡ cover_written (view certificate.now)) }
 {
@@ -75,6 +76,9 @@ fn written_cover_at(alloc: Global, certificate: &Value) -> Result<Option<Proposa
     let Some(cover) = cover_at(alloc, certificate)? else {
         return Ok(None);
     };
+    if !is_short_cover(&cover) {
+        return Ok(None);
+    }
     Ok(Some(ProposalCover::Checked(cover)))
 }
 
@@ -91,7 +95,7 @@ fn proposal_cover_at(
     written_cover_at(alloc, certificate)
 }
 
-// The proposal of these fills and this claim under a certificate.
+// The proposal of these fills and this claim under a certificate whose measure is not too long.
 pub(crate) fn proved_by(
     alloc: Global,
     fills: Vec<Frac128>,
@@ -106,6 +110,9 @@ pub(crate) fn proved_by(
     let Some(points) = list_at(alloc, certificate, "measure", &PointReader)? else {
         return Ok(None);
     };
+    if points.len() > MAX_POINTS {
+        return Ok(None);
+    }
     let measure = Measure {
         points: Points::from_vec(points),
     };

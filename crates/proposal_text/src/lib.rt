@@ -4,9 +4,10 @@
 
 mod account_lines;
 mod bounded_lines;
-mod cells;
+pub mod cells;
 mod cells_shape;
 mod cells_values;
+pub mod counts;
 mod cover_reading;
 mod cover_text;
 pub mod laws;

@@ -1,7 +1,7 @@
 -- What is kept of proposals is within the ranges of proposals.
 use Rattle.std.proofs.Common.{ℕ, List, true, false, if◌then◌else◌, Option, Some, None, Result, Ok, Err}
 use Rattle.std.specs.Prelude.{IfSome}
-use Rattle.std.specs.List.{All, AllByRecursion}
+use Rattle.std.specs.List.{All}
 use Rattle.std.specs.Option.{option_map_or}
 use Rattle.proposal_check.specs.Proposals.{proposal_bound}
 use Rattle.proposal_check.specs.declared.covers.Proposal.{Proposal}
@@ -13,16 +13,14 @@ use Rattle.frac.specs.Range.{limit}
 use Rattle.frac.specs.Value.{fraction_of}
 use Rattle.frac.specs.ValueOf.{value_from}
 use Rattle.frac.specs.declared.frac128.Frac128.{Frac128}
-use Rattle.cert_check.specs.declared.measures.Measure.{Measure}
 use Rattle.order_book.specs.Numbers.{numbers_of}
 use Rattle.proposal_text.specs.declared.replies.Failed.TheVariants as failed
-use Rattle.proposal_text.specs.Within.{IsProposalCoverWithin, IsProposalWithin}
+use Rattle.proposal_text.specs.Within.{IsMeasureWithin, IsProposalCoverWithin, IsProposalWithin}
 use Rattle.proposals.specs.Best.{after_offer, are_same_orders, best_for, best_of, better_fills, better_measure, joined, surplus_of}
 use Rattle.proposals.specs.Laws.{as_proposal}
 use Rattle.proposals.specs.declared.best.Best.{Best}
 use Rattle.proposals.specs.declared.best.BoundedMeasure.{BoundedMeasure}
 use Rattle.proposals.specs.declared.best.CoveredFills.{CoveredFills}
-use Rattle.reply_print.specs.Within.{IsPointWithin}
 use Rattle.proposal_lines.specs.KeptByMarket.{KeptProposals, best_in, kept_in}
 use Rattle.proposal_lines.specs.Proposed.{after_proposed, judged_effect, kept_by, offered, stale_effect, unproved_effect}
 use Rattle.proposal_lines.specs.declared.proposed.Proposed.{Proposed}
@@ -37,9 +35,6 @@ AreKeptWithin kept = All (Has IsBestWithin) kept
 -- ---- after an offer
 cover_within : (one other : CoveredFills) → IsProposalCoverWithin one.cover → IsProposalCoverWithin other.cover → IsProposalCoverWithin (better_fills one other).cover
 cover_within one other h k = elim (is_at_most (surplus_of other) (surplus_of one)) as (λ b. IsProposalCoverWithin (if b then one else other).cover) [ true ↦ h | false ↦ k ]
-
-abbrev IsMeasureWithin : Measure → Type 0
-IsMeasureWithin measure = AllByRecursion IsPointWithin measure.points
 
 measure_within : (one other : BoundedMeasure) → IsMeasureWithin one.measure → IsMeasureWithin other.measure → IsMeasureWithin (better_measure one other).measure
 measure_within one other h k =

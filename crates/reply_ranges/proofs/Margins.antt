@@ -19,7 +19,7 @@ use Rattle.master_program.specs.Master.{zero_prices}
 use Rattle.master_program.specs.Reading.{Reading}
 use Rattle.master_program.specs.Search.{Found, closed, found, search}
 use Rattle.settlement.specs.declared.position.Position.{Position}
-use Rattle.table_run.specs.Ending.{Ending, done, unbounded, wide_at, no_unit_left, on_steps}
+use Rattle.simplex_run.specs.Ending.{Ending, done, unbounded, wide_at, no_unit_left, on_steps}
 use Rattle.portfolio_margin.specs.declared.needs.Needed.TheVariants as needed
 use Rattle.portfolio_margin.specs.Need.{Demand, demand_sum, demand_word, first_demand_word, or_word, whole_demand}
 use Rattle.portfolio_margin.specs.Owed.{fill_of, fills_of}

@@ -1,6 +1,6 @@
 -- Each line that is written for what a session says, or asks, by the rule is sound, and what is left
 -- stands before the next one.
-use Rattle.std.proofs.Common.{◌≡◌, ◌≤◌, ℕ, ◌+◌, List, [], ◌∷◌, ◌++◌, Bool, true, false, if◌then◌else◌, Option, Some, None, Result, Ok, Err, refl, sym, subst, ap}
+use Rattle.std.proofs.Common.{◌≡◌, ◌≤◌, ℕ, ◌+◌, List, [], ◌∷◌, ◌++◌, Bool, true, false, if◌then◌else◌, Option, Some, None, Result, Ok, Err, refl, sym, subst}
 use Rattle.std.specs.Option.{option_map_or}
 use Rattle.command_text.specs.declared.asked.Fault.{Fault}
 use Rattle.command_text.specs.declared.requests.Request.{Request}
@@ -18,10 +18,10 @@ use Rattle.member_lines.specs.Lines.{member_said, passed_line, secured_for}
 use Rattle.member_lines.specs.Refused.{refused_text}
 use Rattle.proposal_text.specs.declared.replies.Bar.TheVariants as bar
 use Rattle.secured_lines.specs.Asked.{said_asks}
-use Rattle.secured_lines.specs.Output.{secured_line, secured_said}
+use Rattle.secured_lines.specs.Output.{secured_said}
 use Rattle.secured_lines.specs.SecuredState.{SecuredState, exchange_in, with_opened}
 use Rattle.serve_lines.specs.ServingState.{ServingState}
-use Rattle.served_members.specs.Members.{ServedMembers, empty_members, member_body, member_question}
+use Rattle.served_members.specs.Members.{ServedMembers, member_body, member_question}
 use Rattle.reply_ranges.proofs.AskedServed.{asked_served, barred_served}
 use Rattle.reply_ranges.proofs.Messages.{AnswersBodies}
 use Rattle.reply_ranges.proofs.SecuredServed.{StandsSecured, passes_secured, secured_answers}

@@ -15,10 +15,10 @@ use Rattle.cert_check.specs.declared.outcome.Mark.TheVariants as mark
 use Rattle.clearing.specs.Outcome.{cover_of, fallback, has_values, optimal_outcome, outcome_at, outcome_of, placed_value, run_of, weighted_of, written_node}
 use Rattle.clearing_model.specs.Certificate.{Point}
 use Rattle.clearing_model.specs.Written.{SplitNode, LeafNode, WrittenTree, Ends as EndsTree, Parts, multipliers_of, nodes_of}
-use Rattle.rounds.specs.Run.{Solution, WrittenCover, by_line, by_tree}
+use Rattle.constraint_generation.specs.Run.{Solution, WrittenCover, by_line, by_tree}
 use Rattle.sign_tree.specs.declared.trees.Multiplier.{Multiplier}
 use Rattle.sign_tree.specs.declared.trees.Node.{Node}
-use Rattle.table_run.specs.Ending.{Ending, done, unbounded, wide_at, no_unit_left}
+use Rattle.simplex_run.specs.Ending.{Ending, done, unbounded, wide_at, no_unit_left}
 use Rattle.reply_print.specs.OutcomePieces.{state_entries}
 use Rattle.reply_print.specs.Within.{IsCoverWithin, IsMarkWithin, IsNodeWithin, IsPair, IsPlace, IsPointWithin, IsSmall, leaves_of}
 use Rattle.reply_ranges.specs.Laws.{OutcomesAreRanged}

@@ -6,20 +6,24 @@ use Rattle.std.specs.Option.{option_map_or}
 use Rattle.std.proofs.lemmas.Bool.{and_parts}
 use Rattle.std.proofs.lemmas.Int.{ints}
 use Rattle.std.proofs.lemmas.List.Elements.{All-nil, All-cons, All-head, All-tail, All-append, recursion_from_All}
+use Rattle.auction_phases.specs.Phases.{ended_in}
 use Rattle.cash_ledger.specs.Refusals.{account_refusals}
 use Rattle.proposal_check.specs.Proposals.{bounded_verdict_of, compared, proposal_bound}
+use Rattle.cert_check.specs.Events.{verdict_of}
 use Rattle.clearing.proofs.Values.{fraction_is}
+use Rattle.clearing.proofs.Yes.{outcomes_are_judged_yes}
 use Rattle.cert_check.specs.declared.outcome.Judgement.TheVariants as judgement
 use Rattle.cert_check.specs.declared.outcome.Outcome.{Outcome}
 use Rattle.proposal_check.specs.declared.covers.Unproved.{Unproved as Reason}
 use Rattle.command_text.specs.declared.asked.Fault.{Fault}
 use Rattle.command_text.specs.declared.asked.Fault.TheVariants.{Syntax, Range}
 use Rattle.command_text.specs.declared.command.Body.TheVariants as body
-use Rattle.command_text.specs.declared.command.Command.TheVariants.{Clear}
+use Rattle.command_text.specs.declared.command.Command.TheVariants.{Clear, Settle}
 use Rattle.command_text.specs.declared.requests.ProposeRequest.{ProposeRequest}
+use Rattle.command_text.specs.declared.requests.Request.TheVariants as asks
 use Rattle.command_text.specs.declared.requests.TryRequest.{TryRequest}
 use Rattle.command_text.specs.Trades.{with_some}
-use Rattle.command_text.specs.Within.{IsAccount, IsBudget, IsMarket, IsTryWithin}
+use Rattle.command_text.specs.Within.{IsAccount, IsBudget, IsMarket, IsTryWithin, RequestIsWithin}
 use Rattle.exact_num.specs.Fraction.{Fraction}
 use Rattle.exact_num.specs.Tests.{is_lowest}
 use Rattle.exact_num.proofs.Tested.{same_passes}
@@ -49,6 +53,7 @@ use Rattle.reply_print.specs.ReplyPieces.{reply_line}
 use Rattle.reply_print.specs.Within.{IsLine}
 use Rattle.reply_print.specs.Within as reply
 use Rattle.proposal_text.specs.declared.replies.BoundedOutcome.{BoundedOutcome}
+use Rattle.proposal_text.specs.declared.replies.RunStop.{RunStop}
 use Rattle.proposal_text.specs.declared.replies.Failed.TheVariants as failed
 use Rattle.proposal_text.specs.declared.replies.ProposalReply.TheVariants as told
 use Rattle.proposal_text.specs.declared.submissions.Submission.{Submission}
@@ -56,12 +61,12 @@ use Rattle.proposal_text.specs.Submissions.{IsTextOf, submission_of}
 use Rattle.proposal_text.specs.Within.{AreRising, IsPositionWithin, IsProposalWithin}
 use Rattle.proposal_text.proofs.ReadExactly.{some_text}
 use Rattle.proposals.specs.Best.{are_same_orders}
-use Rattle.proposals.specs.Laws.{IsProvedBest, as_proposal}
+use Rattle.proposals.specs.Laws.{as_proposal}
 use Rattle.proposals.specs.declared.best.Best.{Best}
 use Rattle.proposal_lines.specs.Clears.{better_in, bounded_effect, charge_effect, clear_reply, cleared_by, reference_in}
-use Rattle.proposal_lines.specs.KeptByMarket.{best_in, bounded_by, bounded_in, kept_in, stop_of}
+use Rattle.proposal_lines.specs.KeptByMarket.{best_in, bounded_as, bounded_in, kept_in, stop_of}
 use Rattle.proposal_lines.specs.Laws.{IsClearedAs, IsSound}
-use Rattle.proposal_lines.specs.Output.{proposing_reply_line}
+use Rattle.proposal_lines.specs.Output.{proposing_reply_line, settlement_reply}
 use Rattle.proposal_lines.specs.Proposed.{for_market, judged_effect, kept_by, offered, proposed_by, proposed_of, proposed_reply, stale_effect, unproved_effect}
 use Rattle.proposal_lines.specs.ProposingState.{ProposingState}
 use Rattle.proposal_lines.specs.Reads.{book_refusals, book_reply, positions_refusals, positions_reply, refused_by, refused_by_fault, unless_refused}
@@ -69,8 +74,8 @@ use Rattle.proposal_lines.specs.Trials.{trial_of, trial_reply}
 use Rattle.proposal_lines.specs.declared.proposed.Proposed.{Proposed}
 use Rattle.proposal_lines.specs.declared.replies.ProposingReply.{ProposingReply}
 use Rattle.proposal_lines.specs.declared.replies.ProposingReply.TheVariants.{Told}
-use Rattle.proposal_lines.proofs.Clearing.{batch_is, chosen, clears_are_proved}
-use Rattle.proposal_lines.proofs.Kept.{best_proved, offered_proved, without_has}
+use Rattle.proposal_lines.proofs.Clearing.{batch_is, better_bound, bounded_has, bounded_units, chosen, clears_are_proved}
+use Rattle.proposal_lines.proofs.Kept.{ended_has, offered_proved, without_has}
 use Rattle.quote_lines.specs.Refusals.{info_refusals, quote_refusals}
 use Rattle.quote_lines.specs.Replies.{tried_for}
 use Rattle.quote_lines.proofs.Thresholds.{tried_orders_are_filled}
@@ -142,27 +147,23 @@ module _ (state : ProposingState) (sound : IsSound state) (are : AreKeptWithin s
   abbrev batch : Batch
   batch = batch_in state.exchange market
 
-  best_both : (best : Best) → best_in market (numbers_of batch.orders) state.kept ≡ Some best → IsProvedBest batch best × IsProposalWithin (as_proposal best)
-  best_both best e =
-      let is = batch_is state market m found in
-      let proved = best_proved state.exchange.book market m found state.kept sound.proved in
-      let own : IfSome (best_in market (numbers_of batch.orders) state.kept) (IsProvedBest batch)
-      = subst (λ (b : Batch). IfSome (best_in market (numbers_of b.orders) state.kept) (IsProvedBest b)) (sym is) proved in (
-        subst (λ o. IfSome o (IsProvedBest batch)) e own,
-        subst (λ o. IfSome o (λ best. IsProposalWithin (as_proposal best))) e (best_within market (numbers_of batch.orders) state.kept are),
-      )
+  best_kept : (best : Best) → best_in market (numbers_of batch.orders) state.kept ≡ Some best → IsProposalWithin (as_proposal best)
+  best_kept best e = subst (λ o. IfSome o (λ best. IsProposalWithin (as_proposal best))) e (best_within market (numbers_of batch.orders) state.kept are)
 
-  kept_better : (outcome : Outcome) (better : BoundedOutcome) → bounded_in market (numbers_of batch.orders) outcome state.kept ≡ Some better → IsKeptBetter batch outcome better
-  kept_better outcome better e =
+  -- the match is within its ranges, and so is what is kept
+  chosen_within : (outcome : Outcome) (stop : RunStop) (kept : Best) → IsProposalWithin (as_proposal kept) → IsProposalWithin (bounded_as outcome stop kept).proposal
+  chosen_within outcome stop kept within = bounded_has outcome stop kept (λ b. IsProposalWithin b.proposal) (λ is. (tt, within.1)) (λ is. within)
+
+  kept_better : (outcome : Outcome) → verdict_of limit batch outcome ≡ judgement.Yes → (better : BoundedOutcome) → bounded_in market (numbers_of batch.orders) outcome state.kept ≡ Some better
+      → IsKeptBetter batch outcome better
+  kept_better outcome judged better e =
       let c = chosen outcome (stop_of outcome.mark) (best_in market (numbers_of batch.orders) state.kept) better e in
-      let both = best_both c.kept c.is_kept in
-      let own = bounded_by c.kept c.stop outcome.units in
-      let kept : IsKeptBetter batch outcome own = record {
-        yes = ap (λ r. compared r (fraction_of c.kept.bounded.bound)) both.0 ∙ same_bound (fraction_of c.kept.bounded.bound);
-        within = both.1;
-        units = refl;
-      } in
-      subst (IsKeptBetter batch outcome) (sym c.is) kept
+      let bound = better_bound state.exchange.book market m found state.kept sound.proved batch (batch_is state market m found) outcome judged better e in
+      record {
+        yes = ap (λ r. compared r (fraction_of better.bound)) bound ∙ same_bound (fraction_of better.bound);
+        within = subst (λ (b : BoundedOutcome). IsProposalWithin b.proposal) (sym c.is) (chosen_within outcome c.stop c.kept (best_kept c.kept c.is_kept));
+        units = ap (λ (b : BoundedOutcome). b.units) c.is ∙ bounded_units outcome c.stop c.kept;
+      }
 
 -- ---- the lines
 module _ (lines number : ℕ) (few : lines + 1 ≤ MAX_LINES) (is_line : IsLine number) (state : ProposingState) (stands : IsStanding lines state.exchange) (sound : IsSound state)
@@ -283,7 +284,8 @@ module _ (lines number : ℕ) (few : lines + 1 ≤ MAX_LINES) (is_line : IsLine 
         let (m, found, more, unsettled) = finishable exchange.book market may in
         let reference = reference_in state market budget in
         let batch_of_it = batch_ranged lines exchange stands.running stands.ranged market may in
-        let kept = kept_better state sound are market m found reference better e in
+        let judged = outcomes_are_judged_yes (batch_in exchange market) budget batch_of_it.within in
+        let kept = kept_better state sound are market m found reference judged better e in
         let few_units = (outcomes_are_ranged (batch_in exchange market) budget batch_of_it.within units.1).0 in
         let same = kept.units in (
           proposal_text number (told.Bounded (exchange.book.finished + 1) market (batch_in exchange market) better)
@@ -295,8 +297,10 @@ module _ (lines number : ℕ) (few : lines + 1 ≤ MAX_LINES) (is_line : IsLine 
     -- as a run has it
     reference_served : IsServedNow (charge_effect state market (reference_in state market budget) None)
     reference_served =
-        let run = run_served lines number few is_line exchange stands (body.Command (Clear market budget)) (listed, units) tt in
-        (subst (λ r. IsServedText (reply_line number (option_map_or (refusal_effect exchange) r (clear_effect exchange market budget)).0 ++ 10 ∷ [])) accepted run, are)
+        let run = run_served lines number few is_line exchange stands (body.Command (Clear market budget)) (listed, units) tt in (
+          subst (λ r. IsServedText (reply_line number (option_map_or (refusal_effect exchange) r (clear_effect exchange market budget)).0 ++ 10 ∷ [])) accepted run,
+          without_has IsBestWithin market state.kept are,
+        )
 
     charge_served : (better : Option BoundedOutcome) → better_in state market budget ≡ better → IsClearedAs state market (reference_in state market budget) better
         → IsServedNow (cleared_by state market budget better)
@@ -310,3 +314,10 @@ module _ (lines number : ℕ) (few : lines + 1 ≤ MAX_LINES) (is_line : IsLine 
           → IsServedNow (option_map_or (λ first. (refused_by first, state)) r (cleared_by state market budget (better_in state market budget)))
       by (Some first) is = (refused_served first (refusal_is_told exchange (Clear market budget) first is), are)
       by None accepted = charge_served market budget listed units accepted (better_in state market budget) refl (clears_are_proved state market budget sound accepted)
+
+  -- a settlement
+  pub settle_served : (market count : ℕ) (prices : List ℕ) → RequestIsWithin (asks.Command (Settle market count prices)) → IsServedNow (settlement_reply state market count prices)
+  settle_served market count prices within = (
+    run_served lines number few is_line exchange stands (body.Command (Settle market count prices)) within tt,
+    ended_has IsBestWithin (ended_in exchange (Settle market count prices)) state.kept are,
+  )

@@ -43,7 +43,7 @@ use Rattle.reply_ranges.proofs.Fields.{IsPlacedIn, said_is_placed}
 use Rattle.reply_ranges.proofs.Kept.{AreKeptWithin, IsBestWithin}
 use Rattle.reply_ranges.proofs.Others.{IsStanding, said_served}
 use Rattle.reply_ranges.proofs.Owed.{IsOwedWithin, charged_owed, reply_owed}
-use Rattle.reply_ranges.proofs.Proposals.{book_served, clear_served, positions_served, proposed_in, proposed_served, trial_served}
+use Rattle.reply_ranges.proofs.Proposals.{book_served, clear_served, positions_served, proposed_in, proposed_served, settle_served, trial_served}
 use Rattle.reply_ranges.proofs.Texts.{IsServedText}
 
 -- before the line of a number
@@ -141,6 +141,7 @@ module _ (number : ℕ) (state : ProposingState) (few : number ≤ MAX_LINES) (s
       (λ request within placed.
       proposed_served stands.lines number some_room is_line state stands.exchange stands.sound stands.kept (proposed_of line request) (proposed_in line request within))
       (λ market budget within placed. clear_served stands.lines number some_room is_line state stands.exchange stands.sound stands.kept market budget within.0 within.1)
+      (λ market count prices within placed. settle_served stands.lines number some_room is_line state stands.exchange stands.sound stands.kept market count prices within)
       (λ market within placed. (book_served stands.lines number some_room is_line state stands.exchange stands.sound stands.kept market within, stands.kept))
       (λ account market within placed.
       (positions_served stands.lines number some_room is_line state stands.exchange stands.sound stands.kept account market within.0 within.1, stands.kept))

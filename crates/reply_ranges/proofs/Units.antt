@@ -12,17 +12,17 @@ use Rattle.line_cover.specs.Breakpoints.{later_states}
 use Rattle.master_program.specs.Master.{master, zero_prices}
 use Rattle.master_program.specs.Solve.{master_run, master_solve, on_optimum, reading_at}
 use Rattle.master_program.specs.Rounds.{Cleared, rounds}
-use Rattle.rounds.specs.Answers.{limits_of}
-use Rattle.rounds.specs.Run.{Solution, line_run, on_line, on_tree, sums_hold as line_sums}
-use Rattle.rounds.proofs.JointRuns.{by_count, joint_run-is, the_line}
+use Rattle.constraint_generation.specs.Answers.{limits_of}
+use Rattle.constraint_generation.specs.Run.{Solution, line_run, on_line, on_tree, sums_hold as line_sums}
+use Rattle.constraint_generation.proofs.JointRuns.{by_count, joint_run-is, the_line}
 use Rattle.search_laws.specs.Rounds.{AreCounted}
 use Rattle.search_laws.specs.Run.{sums_hold as tree_sums, tree_run}
 use Rattle.search_laws.proofs.Rounds.{rounds_are_counted}
-use Rattle.table_run.specs.Ending.{Ending, done, unbounded, wide_at, no_unit_left, on_answer, on_steps, where_fits, EndsBy}
-use Rattle.table_run.specs.Run.{Optimum, run}
-use Rattle.table_run.specs.Units.{IsCounted}
-use Rattle.table_run.proofs.Counted.{units_are_counted}
-use Rattle.table_run.proofs.Endings.{on_answer-by, on_steps-by}
+use Rattle.simplex_run.specs.Ending.{Ending, done, unbounded, wide_at, no_unit_left, on_answer, on_steps, where_fits, EndsBy}
+use Rattle.simplex_run.specs.Run.{Optimum, run}
+use Rattle.simplex_run.specs.Units.{IsCounted}
+use Rattle.simplex_run.proofs.Counted.{units_are_counted}
+use Rattle.simplex_run.proofs.Endings.{on_answer-by, on_steps-by}
 
 -- the units of an answer and of a step that does not fit
 abbrev Spends : {A : Type 0} → ℕ → Ending A → Type 0

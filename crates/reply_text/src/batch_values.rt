@@ -12,7 +12,7 @@ use form::{
     Batch, Bundle, Form, Leg, MAX_COUNT, MAX_ORDERS, MAX_PRICE, MAX_QUANTITY, Order, Orders, Side,
     are_legs,
 };
-use quick_reader::ranges::{has_few_options, has_limits};
+use reply_guess::ranges::{has_few_options, has_limits};
 use reply_print::look::{is_word, number_at};
 use serde_json::Value;
 use std::alloc::{AllocError, Global};

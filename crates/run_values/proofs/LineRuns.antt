@@ -17,9 +17,9 @@ use Rattle.clearing_model.specs.Line.{weight_entry}
 use Rattle.line_cover.specs.Breakpoints.{in_rising_price, insert, is_below, last_state, later_states}
 use Rattle.line_cover.specs.Line.{bends, breakpoint_of, breakpoint_of_leg, breakpoints_of, holds_at, legs_of_orders, line_holds, lowest_state}
 use Rattle.line_cover.specs.Net.{add_payoff, excess, net_of}
-use Rattle.rounds.specs.Run.{line_run, sums_hold}
+use Rattle.constraint_generation.specs.Run.{line_run, sums_hold}
 use Rattle.master_program.specs.Solve.{master_solve}
-use Rattle.table_run.specs.Ending.{done, where_fits}
+use Rattle.simplex_run.specs.Ending.{done, where_fits}
 use Rattle.run_values.specs.Values.{Ends, IsReadingOf, IsSmall, IsSmallState, IsValue}
 use Rattle.run_values.proofs.Numbers.{Has, Nothing, after_has, all_has, answer_ends, fold_has, for_side_has, less_product_has, steps_end, then_has, whole_value, zero_value}
 use Rattle.run_values.proofs.Payoffs.{IsEntry, IsLegSmall, bundle_has, legs_small, scale_small, quotient_small}

@@ -10,8 +10,8 @@ use Rattle.form.specs.declared.orders.Order.{Order}
 use Rattle.form.specs.Limits.{IsOrderWithin}
 use Rattle.form.specs.Vector.{scale_of}
 use Rattle.master_program.specs.Master.{cost_steps, entry_steps, map_steps, master, order_payoff, payoff_at_zero, quantity_rows, quantity_steps, row_steps, rows_steps}
-use Rattle.table_run.specs.Places.{fraction_zero}
-use Rattle.table_run.specs.Program.{LinearProgram}
+use Rattle.simplex_run.specs.Places.{fraction_zero}
+use Rattle.simplex_run.specs.Program.{LinearProgram}
 use Rattle.run_values.specs.Values.{AreValues, IsSmallState, IsValue}
 use Rattle.run_values.proofs.Numbers.{Has, after_has, map_has, mul_has, negated_value, signed_value, sub_has, whole_has, whole_value, zero_value}
 use Rattle.run_values.proofs.Payoffs.{at_zero_small, order_has, scale_small}

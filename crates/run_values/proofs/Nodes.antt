@@ -28,8 +28,8 @@ use Rattle.master_program.specs.Node.{after_zero, if_covering, covers_of, minus_
 use Rattle.master_program.specs.Roles.{Role, Idle, Covering, Free, Above, Below, NodeLeg, can_split, entries, leg_multipliers, placed_from, split_from, values, with_multiplier}
 use Rattle.master_program.specs.Search.{NodeFound, leaf, violated, splits, add_filled, add_owed, excess_of, leaf_of, on_place}
 use Rattle.master_program.specs.NodeSteps.{add_all_earned, add_by_role, add_earned, counted_node, counted_role, cover_cost_steps, cover_rows_steps, covering_legs, leg_fill_steps, negated_of, node_steps, signed_row_steps, signed_rows_steps, state_cost_steps, with_row}
-use Rattle.rounds.proofs.Placed.{all_multipliers}
-use Rattle.table_run.specs.Places.{fraction_zero}
+use Rattle.constraint_generation.proofs.Placed.{all_multipliers}
+use Rattle.simplex_run.specs.Places.{fraction_zero}
 use Rattle.run_values.specs.Values.{AreValues, Ends, IsPlacedOf, IsSmall, IsSmallState, IsValue}
 use Rattle.run_values.proofs.Masters.{HasValues, IsUnit, units_are}
 use Rattle.run_values.proofs.Numbers.{Has, Nothing, after_has, fold_has, for_side_has, less_product_has, map_has, mul_has, negated_value, plus_product_has, sub_has, whole_has, whole_value, zero_value}

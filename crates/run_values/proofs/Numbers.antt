@@ -20,8 +20,8 @@ use Rattle.form.specs.declared.orders.Side.{Side}
 use Rattle.form.specs.declared.orders.Side.TheVariants.{Buy, Sell}
 use Rattle.form.specs.Steps.{add_for_side}
 use Rattle.master_program.specs.Master.{map_steps, signed_for}
-use Rattle.table_run.specs.Ending.{Ending, on_answer, on_steps}
-use Rattle.table_run.proofs.Endings.{on_answer-by}
+use Rattle.simplex_run.specs.Ending.{Ending, on_answer, on_steps}
+use Rattle.simplex_run.proofs.Endings.{on_answer-by}
 use Rattle.run_values.specs.Values.{IsValue, AreOperands, Ends}
 
 -- a fact of what steps give; and where one does not fit, its operands are numbers of the code

@@ -24,9 +24,9 @@ use Rattle.master_program.specs.Master.{master, payoff_at_zero, signed_for, zero
 use Rattle.master_program.specs.Reading.{Reading, add_owed, has_weight, liability_of, owed_of, points_of, points_with_weight}
 use Rattle.master_program.specs.Solve.{master_run, master_solve, on_optimum, reading_at}
 use Rattle.master_program.specs.Verdict.{sums_with}
-use Rattle.table_run.specs.Ending.{done}
-use Rattle.table_run.specs.Places.{at, fraction_zero}
-use Rattle.table_run.specs.Run.{Optimum, optimum, run}
+use Rattle.simplex_run.specs.Ending.{done}
+use Rattle.simplex_run.specs.Places.{at, fraction_zero}
+use Rattle.simplex_run.specs.Run.{Optimum, optimum, run}
 use Rattle.run_values.specs.Values.{AreValues, Ends, IsPointOf, IsReadingOf, IsSmall, IsSmallState, IsValue}
 use Rattle.run_values.proofs.Masters.{HasValues, master_has}
 use Rattle.run_values.proofs.Numbers.{Has, Nothing, add_has, after_has, answer_ends, fold_has, for_side_has, plus_product_has, signed_value, steps_end, sub_has, then_has, whole_has, whole_value, zero_value}

@@ -10,17 +10,17 @@ use Rattle.exact_num.specs.Fraction.{Fraction, IsLowest, negated, whole}
 use Rattle.exact_num.specs.Fits.{after, div_of, mul_of, sub_of}
 use Rattle.exact_num.specs.Tests.{is_above_zero}
 use Rattle.frac.specs.Range.{limit as largest}
-use Rattle.table_run.specs.Choice.{Ratio, Column, entering, least, ratio_in, ratios}
-use Rattle.table_run.specs.Ending.{unbounded, wide_at, no_unit_left}
-use Rattle.table_run.specs.Pivot.{Stop, stop_of, beside, steps_of, told, divided, cleared, less_product, after_pivot, row_after, rows_after}
-use Rattle.table_run.specs.Places.{at, fraction_zero}
-use Rattle.table_run.specs.Program.{LinearProgram, row}
-use Rattle.table_run.specs.Run.{Optimum, optimum, Turn, moved, unlimited, stopped, direction, leave, moved_or_stopped, on_entering, on_ratios, on_turn, price_of, read_off, run, run_from, turn}
-use Rattle.table_run.specs.Table.{Row, Table, label_at, with_right, entries_at, basic_at, no_entry, first_row, first_table, right_side, row_of, where_basic}
-use Rattle.table_run.proofs.Choices.{least_limits}
-use Rattle.table_run.proofs.Entries.{entry_has}
-use Rattle.table_run.proofs.Ends.{holds_at}
-use Rattle.table_run.proofs.Listed.{listed_all}
+use Rattle.simplex_run.specs.Choice.{Ratio, Column, entering, least, ratio_in, ratios}
+use Rattle.simplex_run.specs.Ending.{unbounded, wide_at, no_unit_left}
+use Rattle.simplex_run.specs.Pivot.{Stop, stop_of, beside, steps_of, told, divided, cleared, less_product, after_pivot, row_after, rows_after}
+use Rattle.simplex_run.specs.Places.{at, fraction_zero}
+use Rattle.simplex_run.specs.Program.{LinearProgram, row}
+use Rattle.simplex_run.specs.Run.{Optimum, optimum, Turn, moved, unlimited, stopped, direction, leave, moved_or_stopped, on_entering, on_ratios, on_turn, price_of, read_off, run, run_from, turn}
+use Rattle.simplex_run.specs.Table.{Row, Table, label_at, with_right, entries_at, basic_at, no_entry, first_row, first_table, right_side, row_of, where_basic}
+use Rattle.simplex_run.proofs.Choices.{least_limits}
+use Rattle.simplex_run.proofs.Entries.{entry_has}
+use Rattle.simplex_run.proofs.Ends.{holds_at}
+use Rattle.simplex_run.proofs.Listed.{listed_all}
 use Rattle.run_values.specs.Values.{AreOperands, AreValues, Ends, IsValue}
 use Rattle.run_values.proofs.Masters.{HasValues}
 use Rattle.run_values.proofs.Numbers.{Has, Nothing, after_has, div_has, mul_has, negated_value, sub_has, whole_value, zero_value}

@@ -17,9 +17,9 @@ use Rattle.master_program.specs.Roles.{NodeLeg, split_place}
 use Rattle.master_program.specs.Rounds.{Cleared, axes, axis_rays, on_search, question_of, rounds, rounds_from}
 use Rattle.master_program.specs.Search.{Question, NodeFound, leaf, violated, splits, Found, closed, found, excess_at, leaf_of, legs_in, node_at, node_end, on_excess, on_node, on_optimum, on_place, on_program, on_side, on_state, program_at, search, search_from, state_of, stuck}
 use Rattle.master_program.proofs.NodeWider.{both_sides, joined, minus_side}
-use Rattle.rounds.specs.Answers.{limits_of}
-use Rattle.table_run.specs.Ending.{Ending, done, no_unit_left, on_steps}
-use Rattle.table_run.specs.Run.{Optimum, optimum, run}
+use Rattle.constraint_generation.specs.Answers.{limits_of}
+use Rattle.simplex_run.specs.Ending.{Ending, done, no_unit_left, on_steps}
+use Rattle.simplex_run.specs.Run.{Optimum, optimum, run}
 use Rattle.run_values.specs.Values.{Ends, IsPlacedOf, IsReadingOf, IsSmall, IsSmallState, IsTreeOf, IsValue}
 use Rattle.run_values.proofs.Masters.{HasValues}
 use Rattle.run_values.proofs.Nodes.{IsShown, excess_has, leaf_has, legs_are, legs_few, node_count, node_has, place_ends, primitive_has, split_low}

@@ -1,9 +1,9 @@
 -- The whole run of a batch.
 use Rattle.std.proofs.Common.{◌==◌, ◌-◌, Bool, true, false, sym, subst}
 use Rattle.frac.specs.Range.{limit as largest}
-use Rattle.rounds.specs.Answers.{limits_of}
-use Rattle.rounds.specs.Run.{on_line, on_tree, tree_run}
-use Rattle.rounds.proofs.JointRuns.{by_count, joint_run-is, the_line}
+use Rattle.constraint_generation.specs.Answers.{limits_of}
+use Rattle.constraint_generation.specs.Run.{on_line, on_tree, tree_run}
+use Rattle.constraint_generation.proofs.JointRuns.{by_count, joint_run-is, the_line}
 use Rattle.run_values.specs.Values.{Ends, IsReadingOf, IsSolutionOf}
 use Rattle.run_values.specs.Laws.{RunsHaveValues}
 use Rattle.run_values.proofs.LineRuns.{line_run_has}

@@ -19,9 +19,9 @@ use Rattle.clearing_model.specs.Written.{PlacedMultiplier, WrittenNode, SplitNod
 use Rattle.sign_tree.specs.Legs.{FractionLeg, fraction_legs, leg_fill}
 use Rattle.sign_tree.specs.Walk.{SignedLeg, add_leg, add_term, are_placed, closes_of, entries_close, entry_sum, first_at, is_within, is_within_at, keeps_within, leaf_closes, left_after, less_liability, may_split, plus_filled, signed_legs, walk}
 use Rattle.master_program.specs.Rounds.{Cleared, rounds}
-use Rattle.rounds.specs.Answers.{limits_of}
-use Rattle.rounds.specs.Run.{tree_sums_hold as sums_hold, tree_run}
-use Rattle.table_run.specs.Ending.{done, where_fits}
+use Rattle.constraint_generation.specs.Answers.{limits_of}
+use Rattle.constraint_generation.specs.Run.{tree_sums_hold as sums_hold, tree_run}
+use Rattle.simplex_run.specs.Ending.{done, where_fits}
 use Rattle.run_values.specs.Values.{Ends, IsPlacedOf, IsTreeOf, IsValue}
 use Rattle.run_values.proofs.Nodes.{IsLegOf, entry_low, legs_are, less_has, read_entry}
 use Rattle.run_values.proofs.Numbers.{Has, Nothing, after_has, all_has, answer_ends, fold_has, less_product_has, mul_has, plus_product_has, steps_end, then_has, whole_value, zero_value}

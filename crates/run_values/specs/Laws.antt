@@ -3,8 +3,8 @@ use Rattle.std.specs.Prelude.{ℕ}
 use Rattle.frac.specs.Range.{limit as largest}
 use Rattle.form.specs.declared.orders.Batch.{Batch}
 use Rattle.form.specs.Limits.{IsWithinLimits}
-use Rattle.rounds.specs.Answers.{limits_of}
-use Rattle.rounds.specs.Run.{joint_run}
+use Rattle.constraint_generation.specs.Answers.{limits_of}
+use Rattle.constraint_generation.specs.Run.{joint_run}
 use Rattle.run_values.specs.Values.{Ends, IsSolutionOf}
 
 -- of a batch within the limits of the exchange, with any number of units

@@ -7,9 +7,9 @@ use Rattle.exact_num.specs.Laws.{IsWithin}
 use Rattle.frac.specs.Range.{limit as largest}
 use Rattle.clearing_model.specs.Certificate.{Point}
 use Rattle.clearing_model.specs.Written.{PlacedMultiplier, WrittenTree, Ends as EndsTree, Parts}
-use Rattle.table_run.specs.Ending.{Ending, EndsBy}
+use Rattle.simplex_run.specs.Ending.{Ending, EndsBy}
 use Rattle.master_program.specs.Reading.{Reading}
-use Rattle.rounds.specs.Run.{Solution, WrittenCover, by_line, by_tree}
+use Rattle.constraint_generation.specs.Run.{Solution, WrittenCover, by_line, by_tree}
 
 -- in lowest terms, with both parts at most 2^127 - 1
 pub record IsValue (x : Fraction) : Type 0 where

@@ -6,11 +6,11 @@ use Rattle.exact_num.specs.declared.misfit.Wide.{Wide}
 use Rattle.exact_num.specs.CommonDenominator.{amount_over}
 use Rattle.exact_num.specs.Fraction.{Fraction}
 use Rattle.exact_num.specs.Tests.{is_above_zero}
-use Rattle.table_run.specs.Places.{fraction_zero}
-use Rattle.table_run.specs.Program.{LinearProgram}
-use Rattle.table_run.specs.Ending.{Ending, done, unbounded, wide_at, no_unit_left, on_answer, on_steps}
-use Rattle.table_run.specs.Run.{Optimum, run, optimum}
-use Rattle.table_run.specs.Optimum.{IsProgram}
+use Rattle.simplex_run.specs.Places.{fraction_zero}
+use Rattle.simplex_run.specs.Program.{LinearProgram}
+use Rattle.simplex_run.specs.Ending.{Ending, done, unbounded, wide_at, no_unit_left, on_answer, on_steps}
+use Rattle.simplex_run.specs.Run.{Optimum, run, optimum}
+use Rattle.simplex_run.specs.Optimum.{IsProgram}
 use Rattle.clearing_model.specs.Tree.{Sign, Unsigned, Plus, Minus}
 use Rattle.clearing_model.specs.Written.{WrittenTree, nodes_of, multipliers_of}
 use Rattle.master_program.specs.Roles.{Role, Idle, Covering, Free, Above, Below, NodeLeg, with_multiplier, leg_multipliers, placed_from, split_place}

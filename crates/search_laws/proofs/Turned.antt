@@ -10,20 +10,20 @@ use Rattle.exact_num.specs.Rationals.{0Q, value}
 use Rattle.exact_num.specs.Tests.{is_above_zero}
 use Rattle.exact_num.proofs.Rationals.{zero_has, value_of_lowest, value_zero}
 use Rattle.exact_num.proofs.Values.{whole_is_lowest}
-use Rattle.table_run.specs.Places.{at, fraction_zero}
-use Rattle.table_run.specs.Program.{LinearProgram}
-use Rattle.table_run.specs.Table.{Table, with_right, basic_at, no_entry, first_table, right_side}
-use Rattle.table_run.specs.Choice.{Column, entering, least}
-use Rattle.table_run.specs.Ending.{unbounded, wide_at, no_unit_left}
-use Rattle.table_run.specs.Run.{Turn, moved, unlimited, stopped, turn, on_turn, on_entering, price_of, dual, direction, read_off, run_from, run}
-use Rattle.table_run.specs.Optimum.{IsProgram}
-use Rattle.table_run.specs.Tableau.{tableau_of}
-use Rattle.table_run.proofs.Bland.{IsIn}
-use Rattle.table_run.proofs.Choices.{moved_out, bland_turn}
-use Rattle.table_run.proofs.Entries.{entry_has}
-use Rattle.table_run.proofs.FirstTable.{basic_first, first_value}
-use Rattle.table_run.proofs.Listed.{listed_count, listed_from}
-use Rattle.table_run.proofs.Optima.{Keeps, keeps_first, keeps_turn, above_apart}
+use Rattle.simplex_run.specs.Places.{at, fraction_zero}
+use Rattle.simplex_run.specs.Program.{LinearProgram}
+use Rattle.simplex_run.specs.Table.{Table, with_right, basic_at, no_entry, first_table, right_side}
+use Rattle.simplex_run.specs.Choice.{Column, entering, least}
+use Rattle.simplex_run.specs.Ending.{unbounded, wide_at, no_unit_left}
+use Rattle.simplex_run.specs.Run.{Turn, moved, unlimited, stopped, turn, on_turn, on_entering, price_of, dual, direction, read_off, run_from, run}
+use Rattle.simplex_run.specs.Optimum.{IsProgram}
+use Rattle.simplex_run.specs.Tableau.{tableau_of}
+use Rattle.simplex_run.proofs.Bland.{IsIn}
+use Rattle.simplex_run.proofs.Choices.{moved_out, bland_turn}
+use Rattle.simplex_run.proofs.Entries.{entry_has}
+use Rattle.simplex_run.proofs.FirstTable.{basic_first, first_value}
+use Rattle.simplex_run.proofs.Listed.{listed_count, listed_from}
+use Rattle.simplex_run.proofs.Optima.{Keeps, keeps_first, keeps_turn, above_apart}
 use Rattle.search_laws.specs.Sizes.{one_if, count_above, IsTurned, RunsAreTurned}
 
 -- ---- sets of numbers, by their tests

@@ -5,6 +5,7 @@ pub mod Enough
 pub mod InOrder
 pub mod ListsOfOne
 pub mod Markets
+pub mod Money
 pub mod OwnFills
 pub mod PartsFound
 pub mod Placing

@@ -2,6 +2,7 @@
 //! nothing.
 
 ghost use Rattle.secured_accounts.specs.Laws.{SecuredCanPay, SecuredStaySafe, ToldIsEnough, TradersCanPay};
+ghost use Rattle.secured_accounts.specs.Money.{BalancesAddUp, MoneyIsKept};
 ghost use Rattle.secured_accounts.specs.Worked.{OffersByHand, RulesByHand};
 
 /// A balance that can pay the need that is told of an account is at or above its true need.
@@ -23,6 +24,17 @@ pub fn secured_can_pay()
 /// Where all traders are secured, whoever owes can pay.
 pub fn traders_can_pay()
     ensures { TradersCanPay }
+{}
+
+/// Each premium and payoff moves from one open account to another, whatever comes, and nothing else
+/// moves but what is deposited and withdrawn.
+pub fn money_is_kept()
+    ensures { MoneyIsKept }
+{}
+
+/// So all balances, the house's too, sum to what was deposited less what was withdrawn.
+pub fn balances_add_up()
+    ensures { BalancesAddUp }
 {}
 
 /// What is kept from a small exchange, and what is not: worked rows.

@@ -1,5 +1,7 @@
+pub mod ClosedBest
 pub mod Ends
 pub mod LineKinds
+pub mod Money
 pub mod Moves
 pub mod Outputs
 mod Prices

@@ -1,5 +1,5 @@
 -- A closed market stands still, whatever lines come.
-use Rattle.std.proofs.Common.{◌≡◌, ℕ, true, false, List, [], ◌∷◌, Option, Some, None, nat_eq, Result, Ok, refl, sym, ◌∙◌, subst}
+use Rattle.std.proofs.Common.{◌≡◌, ℕ, true, List, [], ◌∷◌, Option, Some, None, Result, Ok, refl, sym, ◌∙◌, subst}
 use Rattle.std.specs.Option.{option_map_or}
 use Rattle.auction_phases.specs.Laws.{StandsStill}
 use Rattle.auction_phases.specs.Phases.{is_closed}
@@ -15,9 +15,10 @@ use Rattle.exchange_core.specs.Step.{refusal_effect, withdraw_effect}
 use Rattle.exchange_lines.specs.LineSteps.{InputLine}
 use Rattle.order_book.specs.Book.{live_of}
 use Rattle.proposal_lines.specs.Laws.{IsSound}
-use Rattle.serve_lines.specs.Laws.{ended_by_said, phased_of}
+use Rattle.serve_lines.specs.Laws.{phased_of}
 use Rattle.serve_lines.specs.Output.{serving_said}
 use Rattle.serve_lines.proofs.StandingStill as serving
+use Rattle.secured_lines.specs.ClosedBest.{IsElsewhere}
 use Rattle.secured_lines.specs.Output.{handed_on, secured_line, secured_said, withdrawn}
 use Rattle.secured_lines.specs.Promises.{ClosedMarketsStandStill}
 use Rattle.secured_lines.specs.SecuredState.{SecuredState, exchange_in}
@@ -25,7 +26,7 @@ use Rattle.secured_lines.proofs.LineKinds.{by_answer, by_kind}
 use Rattle.secured_lines.proofs.Telling.{secured_sound}
 
 module _ (market : ℕ) (state : SecuredState) (line : InputLine) (sound : IsSound state.serving.proposing) (shut : is_closed state.serving.closed market ≡ true)
-    (elsewhere : option_map_or (nat_eq market) (ended_by_said state.serving (said_in SERVED line.bytes)) false ≡ false) where
+    (elsewhere : IsElsewhere market state line) where
   abbrev Stands : List ℕ × SecuredState → Type 0
   Stands now = StandsStill market (phased_of state.serving) (phased_of now.1.serving)
 

@@ -6,7 +6,7 @@ use Rattle.cash_ledger.specs.Entries.{balance_of}
 use Rattle.exchange_lines.specs.LineSteps.{InputLine}
 use Rattle.proposal_lines.specs.Laws.{IsSound}
 use Rattle.proposal_lines.proofs.Telling.{empty_is_sound}
-use Rattle.secured_accounts.specs.Laws.{AreSafe, Guarded}
+use Rattle.secured_accounts.specs.Laws.{AreSafe}
 use Rattle.secured_accounts.specs.Secured.{account_of}
 use Rattle.secured_accounts.proofs.StayingSafe.{secured_stay_safe as events_stay_safe}
 use Rattle.secured_lines.specs.Laws.{SecuredCanPay, SecuredStaySafe, ServedStaySafe, TradersCanPay, guarded_in, state_by_lines}

@@ -1,8 +1,9 @@
 -- What is written for an input is told line by line, and keeps what is promised where proposals are
 -- taken.
-use Rattle.std.proofs.Common.{◌≡◌, ◌++◌, ◌∷◌, [], ℕ, List, Option, Some, None, Result, Ok, Err, refl, sym, ap, ◌∙◌, subst}
-use Rattle.std.specs.Option.{option_map_or}
+use Rattle.std.proofs.Common.{◌≡◌, ◌++◌, ◌∷◌, [], ℕ, List, Result, Ok, Err, refl, sym, ap, ◌∙◌, subst}
 use Rattle.account_need.specs.Account.{Need}
+use Rattle.auction_phases.specs.Phases.{ended_by}
+use Rattle.auction_phases.proofs.Ends.{ends_are_told}
 use Rattle.command_text.specs.declared.asked.Fault.{Fault}
 use Rattle.command_text.specs.declared.command.Body.{Body}
 use Rattle.command_text.specs.declared.command.Body.TheVariants as body
@@ -17,10 +18,7 @@ use Rattle.command_text.specs.declared.words.TheConstants.{SERVED}
 use Rattle.command_text.specs.Commands.{body_of_line}
 use Rattle.command_text.specs.Said.{said_in}
 use Rattle.command_text.proofs.SaidByWords.{command_to_run}
-use Rattle.exchange_core.specs.declared.refusal.Refusal.{Refusal}
 use Rattle.exchange_core.specs.LineReplies.{reply_to}
-use Rattle.exchange_core.specs.Refusals.{refusal_of}
-use Rattle.exchange_core.specs.Step.{refusal_effect, withdraw_effect}
 use Rattle.exchange_lines.specs.LineSteps.{InputLine}
 use Rattle.reply_print.specs.ReplyPieces.{reply_line}
 use Rattle.proposal_lines.specs.Laws.{IsSound}
@@ -28,8 +26,7 @@ use Rattle.proposal_lines.specs.Promises.{TellsAsked, TellsBy}
 use Rattle.proposal_lines.specs.ProposingState.{ProposingState}
 use Rattle.proposal_lines.specs.declared.replies.ProposingReply.{ProposingReply}
 use Rattle.proposal_lines.proofs.Beside.{IsBeside, beside_text, refusal_beside}
-use Rattle.proposal_lines.proofs.SaidKinds.{IsUnbeaten}
-use Rattle.proposal_lines.proofs.Telling.{IsTold, TellsLine, beside_told, outputs_tell_by, replied_told}
+use Rattle.proposal_lines.proofs.Telling.{IsTold, TellsLine, beside_told, outputs_tell_by, unended_told}
 use Rattle.secured_accounts.specs.Refusals.{need_answer, secure_answer}
 use Rattle.secured_accounts.specs.declared.accounts.ToldNeed.{ToldNeed}
 use Rattle.secured_accounts.specs.declared.refusal.SecuringRefusal.{SecuringRefusal}
@@ -114,20 +111,14 @@ module _ (line : InputLine) (state : SecuredState) (sound : IsSound state.servin
     kept_told : (need : Need) → Tells (written_reply line.number (uncovered_reply need, state))
     kept_told need = ruled_told (Ok (asks.Command command)) says nothing (uncovered_reply need) tt state refl
 
-  unbeaten : (account amount : ℕ) (refused : Option Refusal)
-      → IsUnbeaten state.serving.proposing (option_map_or (refusal_effect (exchange_in state)) refused (withdraw_effect (exchange_in state) account amount)).0
-  unbeaten account amount None = tt
-  unbeaten account amount (Some refusal) = tt
-
   withdrawn_told : (account amount : ℕ) → said_in SERVED line.bytes ≡ Ok (asks.Command (Withdraw account amount)) → Tells (withdrawn line.number state account amount)
   withdrawn_told account amount says =
       let now = withdrawn line.number state account amount in
       let is : body.Command (Withdraw account amount) ≡ body_of_line line.bytes = sym (command_to_run SERVED line.bytes (Withdraw account amount) says) in
       record {
-        line_is = replied_told state.serving.proposing line sound (now.0, now.1.serving.proposing)
+        line_is = unended_told state.serving.proposing line sound (now.0, now.1.serving.proposing)
             (ap (λ (said : Body). reply_line line.number (reply_to (exchange_in state) said).0 ++ 10 ∷ []) is) (ap (λ (said : Body). (reply_to (exchange_in state) said).1) is) refl
-            (subst (λ (said : Body). IsUnbeaten state.serving.proposing (reply_to (exchange_in state) said).0) is
-            (unbeaten account amount (refusal_of (exchange_in state) (Withdraw account amount))));
+            (ap (λ (said : Body). ended_by (reply_to (exchange_in state) said).0) (sym is) ∙ ends_are_told (exchange_in state) (Withdraw account amount));
         asked_is = nothing_asked (Ok (asks.Command (Withdraw account amount))) says (nothing (Withdraw account amount) says) now;
       }
 

@@ -4,3 +4,4 @@ pub mod Output
 pub mod Laws
 pub mod Promises
 pub mod Asked
+pub mod ClosedBest

@@ -1,7 +1,6 @@
 -- What is promised of the bytes that are written where accounts may be secured.
-use Rattle.std.specs.Prelude.{ℕ, ◌≡◌, ⊤, true, false, List, [], ◌∷◌, ◌++◌, nat_eq, Ok}
+use Rattle.std.specs.Prelude.{ℕ, ◌≡◌, ⊤, true, List, [], ◌∷◌, ◌++◌, Ok}
 use Rattle.std.specs.List.{All}
-use Rattle.std.specs.Option.{option_map_or}
 use Rattle.auction_phases.specs.Laws.{StandsStill}
 use Rattle.auction_phases.specs.Phases.{is_closed}
 use Rattle.command_text.specs.declared.requests.Request.TheVariants as asks
@@ -11,30 +10,30 @@ use Rattle.exchange_lines.specs.LineSteps.{InputLine, input_lines}
 use Rattle.proposal_lines.specs.Laws.{IsSound}
 use Rattle.proposal_lines.specs.Promises.{TellsBy}
 use Rattle.secured_accounts.specs.Laws.{AreSafe}
-use Rattle.serve_lines.specs.Laws.{ended_by_said, phased_of}
+use Rattle.secured_accounts.specs.Money.{AddUp}
+use Rattle.serve_lines.specs.Laws.{phased_of}
 use Rattle.serve_lines.specs.Output.{serving_line, serving_output}
 use Rattle.serve_lines.specs.ServingState.{ServingState}
+pub use Rattle.secured_lines.specs.ClosedBest.{AreMeanwhile}
+use Rattle.secured_lines.specs.ClosedBest.{UsesBestOfClosed}
 use Rattle.secured_lines.specs.Laws.{guarded_in, state_by_lines}
 use Rattle.secured_lines.specs.Output.{secured_line, secured_output}
-use Rattle.secured_lines.specs.SecuredState.{SecuredState, empty_secured, secured_of}
+use Rattle.secured_lines.specs.SecuredState.{SecuredState, empty_secured, exchange_in, secured_of}
 
 -- they keep what is promised of an exchange that takes proposals, and after each line the balance of
--- each secured account is at or above its true need
+-- each secured account is at or above its true need, and all balances sum to deposits less
+-- withdrawals. The next clear of a closed market is as good as each proposal that was taken since it
+-- was closed
 pub record TellSecured (input bytes : List ℕ) : Type 0 where
   pub told : TellsBy (λ (state : SecuredState). state.serving.proposing) secured_line empty_secured input bytes
   pub safe : (front back : List InputLine) → input_lines input ≡ front ++ back → AreSafe (guarded_in (state_by_lines empty_secured front))
+  pub money : (front back : List InputLine) → input_lines input ≡ front ++ back → AddUp (exchange_in (state_by_lines empty_secured front))
+  pub closed : UsesBestOfClosed empty_secured (input_lines input) told.answers
 
 abbrev pub OutputsTellSecured : Type 0
 OutputsTellSecured = (input : List ℕ) → TellSecured input (secured_output input)
 
 -- ---- closed markets
--- none of the lines clears, settles or opens the market
-abbrev pub AreMeanwhile : ℕ → SecuredState → List InputLine → Type 0
-AreMeanwhile market state [] = ⊤
-AreMeanwhile market state (line ∷ lines) =
-    (option_map_or (nat_eq market) (ended_by_said state.serving (said_in SERVED line.bytes)) false ≡ false)
-    × AreMeanwhile market (secured_line line.number state line.bytes).1 lines
-
 -- a closed market is still closed after them, and its live orders are what they were
 abbrev pub ClosedMarketsStandStill : Type 0
 ClosedMarketsStandStill =

@@ -1,5 +1,6 @@
 //! Laws over the definitions: each is the contract of a function that does nothing.
 ghost use Rattle.secured_lines.specs.Asked.{OutputsTellAsked};
+ghost use Rattle.secured_lines.specs.ClosedBest.{BestOfClosedIsUsed, ClosedBatchesStay};
 ghost use Rattle.secured_lines.specs.Laws.{SecuredCanPay, SecuredStaySafe, SecuredStaySecured, ServedStaySafe, TradersCanPay};
 ghost use Rattle.secured_lines.specs.Promises.{AnswersAreAlike, ClosedMarketsStandStill, OutputsTellSecured, WithoutSecured};
 
@@ -39,6 +40,17 @@ pub fn outputs_tell_secured()
 /// live orders stay as they are, whatever lines come.
 pub fn closed_markets_stand_still()
     ensures { ClosedMarketsStandStill }
+{}
+
+/// So a closed market that is there has the same batch until then.
+pub fn closed_batches_stay()
+    ensures { ClosedBatchesStay }
+{}
+
+/// So its next clear tells at least the surplus of each proposal that was taken since it was closed,
+/// and at most its bound.
+pub fn best_of_closed_is_used()
+    ensures { BestOfClosedIsUsed }
 {}
 
 /// Where no line secures an account or asks what one needs, what is written is what an exchange

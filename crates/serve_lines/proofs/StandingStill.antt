@@ -113,7 +113,7 @@ module _ (market : ℕ) (state : ServingState) (sound : IsSound state.proposing)
   command_live number line (Bundle side account other price quantity bundle) through elsewhere =
       said_stands number (Bundle side account other price quantity bundle) through elsewhere
   command_live number line (Cancel account order) through elsewhere = said_stands number (Cancel account order) through elsewhere
-  command_live number line (Settle other count prices) through elsewhere = said_stands number (Settle other count prices) through elsewhere
+  command_live number line (Settle other count prices) through elsewhere = stepped number (Settle other count prices) through elsewhere
   command_live number line (Balance account) through elsewhere = said_stands number (Balance account) through elsewhere
 
   -- ---- a line

@@ -1,6 +1,10 @@
 pub mod Bodies
+pub mod Freed
+pub mod LinesKept
 pub mod Once
 pub mod Paying
+pub mod Questions
+pub mod Ruled
 pub mod Runs
 pub mod Secured
 pub mod Serving

@@ -13,7 +13,7 @@ use Rattle.served_members.specs.Members.{IsSoundServed, ServedMembers}
 use Rattle.served_members.proofs.Bodies.{by_body, by_opened, line_state, opened_in}
 
 -- the state behind a body is sound
-body_sound : (number : ℕ) (state : ServedMembers) (said : SaidBody) → IsSoundServed state.served → IsSoundServed (after_body number state said).served
+pub body_sound : (number : ℕ) (state : ServedMembers) (said : SaidBody) → IsSoundServed state.served → IsSoundServed (after_body number state said).served
 body_sound number state said sound =
     let now = secured_sound (record { number = number; bytes = said.body }) state.served sound in
     by_body number state said (λ next. IsSoundServed next.served) sound

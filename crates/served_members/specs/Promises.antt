@@ -1,5 +1,6 @@
 -- What is promised of the lines of `serve` stays promised where members open accounts.
-use Rattle.std.specs.Prelude.{ℕ, ◌≡◌, true, List, [], ◌∷◌, Err}
+use Rattle.std.specs.Prelude.{ℕ, ◌≡◌, ◌+◌, true, List, [], ◌∷◌, ◌++◌, map, Err}
+use Rattle.std.specs.List.{All}
 use Rattle.command_text.specs.declared.asked.Fault.{Fault}
 use Rattle.command_text.specs.declared.words.TheConstants.{SERVED}
 use Rattle.command_text.specs.Said.{said_in}
@@ -7,8 +8,11 @@ use Rattle.live_lines.specs.Output.{output_of}
 use Rattle.proposal_lines.specs.Promises.{TellsBy}
 use Rattle.secured_lines.specs.Output.{secured_said}
 use Rattle.secured_lines.specs.SecuredState.{SecuredState, empty_secured, exchange_in, with_opened}
-use Rattle.member_lines.specs.Laws.{AreAsServed, OthersAreRefused, RefusalsAreTold, SaidBody}
-use Rattle.served_members.specs.Members.{ServedMembers, free_body}
+use Rattle.session_gate.specs.Bodies.{is_body}
+use Rattle.session_lines.specs.Laws.{as_input}
+use Rattle.member_lines.specs.Laws.{AreAsServed, OthersAreRefused, RefusalsAreTold, SaidBody, body_for, rule_refusal}
+use Rattle.served_members.specs.Laws.{after_body}
+use Rattle.served_members.specs.Members.{ServedMembers, empty_members, free_body}
 
 -- ---- beside what has no rule
 -- a body that the rule refuses is told so, and changes nothing; of an account its owner is told, and
@@ -35,3 +39,41 @@ abbrev pub FreeLinesTell : Type 0
 FreeLinesTell =
     (sessions input : List ℕ)
     → TellsBy (λ (state : Saying). state.1.serving.proposing) turn_line (sessions, empty_secured) input (output_of turn_line true (sessions, empty_secured) input)
+
+-- ---- bodies where there is no rule
+abbrev pub sessions_in : List SaidBody → List ℕ
+sessions_in bodies = map (λ (said : SaidBody). said.session) bodies
+
+abbrev pub bodies_in : List SaidBody → List (List ℕ)
+bodies_in bodies = map (λ (said : SaidBody). said.body) bodies
+
+abbrev pub AreBodies : List SaidBody → Type 0
+AreBodies bodies = All (λ body. is_body body ≡ true) (bodies_in bodies)
+
+-- what is written for them, the first of which has this number
+abbrev pub free_texts : ℕ → SecuredState → List SaidBody → List ℕ
+free_texts number served [] = []
+free_texts number served (said ∷ more) = let now = free_body said.session number served said.body in now.0 ++ free_texts (number + 1) now.1 more
+
+-- as the lines of one input they keep what is promised where proposals are taken
+abbrev pub TellFree : List SaidBody → Type 0
+TellFree bodies =
+    TellsBy (λ (state : Saying). state.1.serving.proposing) turn_line (sessions_in bodies, empty_secured) (as_input (bodies_in bodies)) (free_texts 1 empty_secured bodies)
+
+abbrev pub FreeBodiesTell : Type 0
+FreeBodiesTell = (bodies : List SaidBody) → AreBodies bodies → TellFree bodies
+
+-- ---- and what the rule lets through
+-- with a body in place of each that the rule refuses
+abbrev pub with_filler : List ℕ → ℕ → ServedMembers → List SaidBody → List SaidBody
+with_filler filler number state [] = []
+with_filler filler number state (said ∷ more) =
+    let body = body_for exchange_in secured_said with_opened filler (rule_refusal exchange_in secured_said with_opened state said) said.body in
+    record { session = said.session; body = body } ∷ with_filler filler (number + 1) (after_body number state said) more
+
+-- so these do, with any body that is no line in place of each other
+abbrev pub AllowedTell : List SaidBody → Type 0
+AllowedTell bodies = (filler : List ℕ) (fault : Fault) → said_in SERVED filler ≡ Err fault → is_body filler ≡ true → TellFree (with_filler filler 1 empty_members bodies)
+
+abbrev pub AllowedBodiesTell : Type 0
+AllowedBodiesTell = (bodies : List SaidBody) → AreBodies bodies → AllowedTell bodies

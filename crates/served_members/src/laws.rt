@@ -1,6 +1,21 @@
 //! Laws over what sessions say: each is the contract of a function that does nothing.
+ghost use Rattle.served_members.specs.Asking.{QuestionsAreTold};
 ghost use Rattle.served_members.specs.Laws.{ClosedMarketsStandStill, MembersAreSecured, MembersCanPay, MembersTellOnce, MoveByRule, OwnedByOpening, SecuredByWill};
-ghost use Rattle.served_members.specs.Promises.{AreServed, FreeLinesTell};
+ghost use Rattle.served_members.specs.Lines.{OutputsTellServed};
+ghost use Rattle.served_members.specs.Promises.{AllowedBodiesTell, AreServed, FreeLinesTell};
+ghost use Rattle.served_members.specs.Ruled.{MembersAreRuled};
+
+/// What is asked of lines is told as the next line would be, where it may be asked.
+pub fn questions_are_told()
+    ensures { QuestionsAreTold }
+{}
+
+/// What is written for an input of lines keeps what is promised of it where accounts may be secured.
+/// Wherever its lines are parted, a closed market stands still, and no balance of a secured account
+/// is below 0 again.
+pub fn outputs_tell_served()
+    ensures { OutputsTellServed }
+{}
 
 /// What is written for messages tells each once: those that are answered First have, session by
 /// session, the numbers 1, 2, 3 and so on, their replies are the answers to their bodies, each by
@@ -21,6 +36,12 @@ pub fn members_are_served()
 /// what is written keeps what is promised where proposals are taken.
 pub fn free_lines_tell()
     ensures { FreeLinesTell }
+{}
+
+/// So it is of what the rule lets through, as the lines of one input, with any body that is no line
+/// in place of each other.
+pub fn allowed_bodies_tell()
+    ensures { AllowedBodiesTell }
 {}
 
 /// Whatever sessions say, what an account has changes by its owner's lines alone, and by the
@@ -57,4 +78,12 @@ pub fn members_can_pay()
 /// closed, and its live orders stay as they are, whatever sessions say.
 pub fn closed_markets_stand_still()
     ensures { ClosedMarketsStandStill }
+{}
+
+/// Of bodies that sessions say, wherever they are parted: a session that is not the operator's is
+/// within its part of what all share, an account keeps its owner, which is the session that opened
+/// it, a closed market stands still, and what the rule refuses is told so, as is what would tell of
+/// an account whose owner the session is not.
+pub fn members_are_ruled()
+    ensures { MembersAreRuled }
 {}

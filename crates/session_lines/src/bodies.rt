@@ -7,10 +7,10 @@ ghost use Rattle.session_lines.specs.Standing.{stands_next};
 
 use live_lines::LineSteps;
 use std::alloc::{AllocError, Global};
+use std::marker::Model;
 
 /// A way of answering the bodies of messages, one after another, each by the session that says it.
-/// It keeps the state between them. A way of answering lines is one, which does not look at the
-/// session.
+/// It keeps the state between them.
 pub trait AnswersMessages {
     /// What is written for a body of a session, with its number among all bodies, in a state, and
     /// the state after it.
@@ -40,7 +40,29 @@ pub trait AnswersMessages {
         → ready (number + 1) (body_step session number state body).1 };
 }
 
-impl<A: LineSteps> AnswersMessages for A {
+/// Lines that any session may say: a way of answering lines as one of answering bodies, which does
+/// not look at the session.
+#[derive(Drop)]
+pub struct AnySession<A: LineSteps> {
+    pub(crate) lines: A,
+}
+
+impl<A: LineSteps> Model for AnySession<A> {
+    ghost Value = { A };
+
+    ghost view = { λ s. s.lines };
+}
+
+impl<A: LineSteps> AnySession<A> {
+    /// Any session may say these lines. Takes no memory.
+    pub fn new(lines: A) -> Self
+        ensures { result ≡ lines }
+    {
+        AnySession { lines }
+    }
+}
+
+impl<A: LineSteps> AnswersMessages for AnySession<A> {
     ghost body_step = { any_session A.step };
 
     ghost ready = { A.stands };
@@ -52,7 +74,7 @@ impl<A: LineSteps> AnswersMessages for A {
         number: u32,
         body: &[u8],
     ) -> Result<Vec<u8>, AllocError> {
-        self.answer(alloc, number, body)
+        self.lines.answer(alloc, number, body)
     }
 
     ghost stays_ready = { stands_next A.answers A.step A.steps A.stands A.goes_on };

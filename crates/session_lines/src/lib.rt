@@ -9,6 +9,6 @@ mod questions;
 mod sessions;
 pub mod texts;
 
-pub use bodies::AnswersMessages;
+pub use bodies::{AnswersMessages, AnySession};
 pub use questions::AsksBodies;
 pub use sessions::{SessionLines, kept_reply, without_feed};

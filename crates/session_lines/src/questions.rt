@@ -5,7 +5,7 @@ ghost use Rattle.limits.specs.declared.TheConstants.{MAX_LINES};
 ghost use Rattle.session_gate.specs.Bodies.{is_body};
 ghost use Rattle.session_lines.specs.Questions.{any_asks, asked_of, session_asks};
 
-use crate::bodies::AnswersMessages;
+use crate::bodies::{AnswersMessages, AnySession};
 use crate::messages::{Asked, question};
 use crate::sessions::{SessionLines, without_feed};
 use crate::texts::{print_asked, print_malformed};
@@ -13,8 +13,7 @@ use asked_lines::AnswersQuestions;
 use std::alloc::{AllocError, Global};
 
 /// A way of answering the bodies of messages that sessions may ask between them. What asks is lent
-/// the state, and so changes nothing. A way of answering lines that may be asked is one, which does
-/// not look at the session.
+/// the state, and so changes nothing.
 pub trait AsksBodies: AnswersMessages {
     /// What is written for what a session asks in a state; the number is that of the next body.
     ghost body_asks: { ℕ → ℕ → Self → List ℕ → List ℕ };
@@ -34,7 +33,7 @@ pub trait AsksBodies: AnswersMessages {
         ensures { IfOk result (λ text. text.items ≡ body_asks session number self.now body.now) };
 }
 
-impl<A: AnswersQuestions> AsksBodies for A {
+impl<A: AnswersQuestions> AsksBodies for AnySession<A> {
     ghost body_asks = { any_asks A.asks };
 
     fn ask_body(
@@ -44,7 +43,7 @@ impl<A: AnswersQuestions> AsksBodies for A {
         number: u32,
         body: &[u8],
     ) -> Result<Vec<u8>, AllocError> {
-        self.ask(alloc, number, body)
+        self.lines.ask(alloc, number, body)
     }
 }
 

@@ -3,8 +3,8 @@ use Rattle.std.proofs.Common.{◌≡◌, ℕ, zero, suc, ◌+◌, ◌-◌, ◌*�
 use Rattle.std.specs.Prelude.{Option, Some, None, nat_lt, if◌then◌else◌}
 use Rattle.std.proofs.lemmas.Bool.Decides.{nat_tests}
 use Rattle.std.proofs.Math.Nat.{mul-div_cancel}
-use Rattle.table_run.specs.Choose.{choose}
-use Rattle.table_run.proofs.Counting.{choose_both}
+use Rattle.simplex_run.specs.Choose.{choose}
+use Rattle.simplex_run.proofs.Counting.{choose_both}
 
 -- the number of ways to choose b of a + b
 abbrev pub ways : ℕ → ℕ → ℕ

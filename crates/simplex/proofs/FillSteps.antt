@@ -2,7 +2,7 @@
 use Rattle.std.proofs.Common.{◌≡◌, ℕ, ◌+◌, ◌<◌, ◌≤◌, List, [], ◌∷◌, ◌++◌, length, map, take, sym, ◌∙◌, ap, append_assoc}
 use Rattle.std.proofs.lemmas.List.{take_more, take_all, map-append}
 use Rattle.exact_num.specs.Fraction.{Fraction}
-use Rattle.table_run.specs.Places.{at, fraction_zero}
+use Rattle.simplex_run.specs.Places.{at, fraction_zero}
 
 -- x is entry i of xs, of which the first i stand at the end
 pub pushed : {A : Type 0} (value : A → Fraction) (old new : List A) (x : A) (start xs : List Fraction) (i : ℕ) → map value old ≡ start ++ take i xs → new ≡ old ++ (x ∷ []) → i < length xs → value x ≡ at xs i → map value new ≡ start ++ take (i + 1) xs

@@ -2,8 +2,8 @@
 use Rattle.std.proofs.Common.{◌≡◌, ℕ, ◌+◌, ◌<◌, ◌≤◌, List, [], ◌∷◌, ◌++◌, length, map, take, set, sym, ◌∙◌, ap, arith}
 use Rattle.std.proofs.lemmas.List.{take_all, take_more, length-map}
 use Rattle.exact_num.specs.Fraction.{Fraction}
-use Rattle.table_run.specs.Places.{at, fraction_zero}
-use Rattle.compact_table.proofs.EntrySteps.{done_more}
+use Rattle.simplex_run.specs.Places.{at, fraction_zero}
+use Rattle.fraction_tableau.proofs.EntrySteps.{done_more}
 
 -- the entries before i are those of the list
 abbrev pub Written : {A : Type 0} → (A → Fraction) → List Fraction → ℕ → List A → Type 0

@@ -3,11 +3,11 @@ use Rattle.std.proofs.Common.{◌≡◌, ℕ, zero, suc, ◌+◌, ◌-◌, ◌<�
 use Rattle.std.specs.Prelude.{Some, None, Bool, true, false, nat_lt, if◌then◌else◌}
 use Rattle.std.proofs.lemmas.Bool.Decides.{nat_tests}
 use Rattle.exact_num.specs.declared.misfit.Wide.{Wide}
-use Rattle.table_run.specs.Ending.{wide_at, no_unit_left, unbounded}
-use Rattle.table_run.specs.Table.{Table}
-use Rattle.table_run.specs.Choice.{Column, entering}
-use Rattle.table_run.specs.Run.{turn, moved, unlimited, stopped}
-use Rattle.table_run.specs.Run.{read_off, direction, run_from}
+use Rattle.simplex_run.specs.Ending.{wide_at, no_unit_left, unbounded}
+use Rattle.simplex_run.specs.Table.{Table}
+use Rattle.simplex_run.specs.Choice.{Column, entering}
+use Rattle.simplex_run.specs.Run.{turn, moved, unlimited, stopped}
+use Rattle.simplex_run.specs.Run.{read_off, direction, run_from}
 
 pub run_ends : (limit n m left spent : ℕ) (c : Table) → entering c ≡ None → run_from limit n m left spent c ≡ read_off n m c spent
 unfolding run_from

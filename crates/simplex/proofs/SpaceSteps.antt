@@ -7,44 +7,37 @@ use Rattle.std.proofs.lemmas.Nat.{mul-le}
 use Rattle.exact_num.specs.declared.misfit.Wide.{Wide}
 use Rattle.exact_num.specs.Fraction.{Fraction, IsLowest, IsNotBelowZero}
 use Rattle.exact_num.proofs.Values.{whole_is_lowest}
-use Rattle.table_run.specs.Places.{at, fraction_zero}
-use Rattle.table_run.specs.Program.{LinearProgram}
-use Rattle.table_run.specs.Ending.{Ending, done, unbounded, wide_at, no_unit_left}
-use Rattle.table_run.specs.Optimum.{IsProgram}
-use Rattle.table_run.specs.Choose.{bases_of}
-use Rattle.table_run.specs.Units.{units_of}
-use Rattle.table_run.proofs.Suffice.{units_suffice}
-use Rattle.table_run.specs.Table.{Table as TableOf, first_table}
-use Rattle.table_run.specs.Run.{Optimum, read_off, run, run_from}
-use Rattle.compact_table.specs.Programs.{coefficients_in, empty_program, program_of, with_row}
-use Rattle.compact_table.proofs.EntrySteps.{at-map}
-use Rattle.compact_table.proofs.Starts.{program_more}
-use Rattle.compact_table.specs.declared.sparse.SparseProgram.{SparseProgram}
-use Rattle.compact_table.specs.SparseRows.{lists_of, HasRoom, KeepsRoom}
-use Rattle.compact_table.proofs.Parts.{length-rows}
+use Rattle.simplex_run.specs.Places.{at, fraction_zero}
+use Rattle.simplex_run.specs.Program.{LinearProgram}
+use Rattle.simplex_run.specs.Ending.{Ending, done, unbounded, wide_at, no_unit_left}
+use Rattle.simplex_run.specs.Optimum.{IsProgram}
+use Rattle.simplex_run.specs.Choose.{bases_of}
+use Rattle.simplex_run.specs.Units.{units_of}
+use Rattle.simplex_run.proofs.Suffice.{units_suffice}
+use Rattle.simplex_run.specs.Table.{Table as TableOf, first_table}
+use Rattle.simplex_run.specs.Run.{Optimum, read_off, run, run_from}
+use Rattle.fraction_tableau.specs.Programs.{coefficients_in, empty_program, program_of, with_row}
+use Rattle.fraction_tableau.proofs.ArenaSteps.{lowest_all}
+use Rattle.fraction_tableau.proofs.EntrySteps.{at-map}
+use Rattle.fraction_tableau.proofs.Starts.{program_more}
+use Rattle.fraction_tableau.specs.declared.sparse.SparseProgram.{SparseProgram}
+use Rattle.fraction_tableau.specs.SparseRows.{lists_of, HasRoom, KeepsRoom}
+use Rattle.fraction_tableau.proofs.Parts.{length-rows}
 use Rattle.simplex.specs.declared.run.End.{End}
 use Rattle.simplex.specs.declared.stop.RunStop.{RunStop}
 use Rattle.simplex.specs.declared.stop.RunStop.TheVariants.{Wide as RunWide, Budget as RunBudget}
 use Rattle.simplex.specs.Ends.{ending_of}
-use Rattle.compact_table.specs.declared.table.Table.{Table}
-use Rattle.compact_table.specs.Lists.{front}
-use Rattle.compact_table.specs.Tables.{as_table, program_in, SameShape}
+use Rattle.fraction_tableau.specs.declared.table.Table.{Table}
+use Rattle.fraction_tableau.specs.Lists.{front}
+use Rattle.fraction_tableau.specs.Tables.{as_table, program_in, SameShape}
 use Rattle.simplex.specs.declared.stage.Stage.{Stage}
 use Rattle.simplex.specs.declared.stage.Stage.TheVariants.{Empty, Given, Optimal, Unbounded, WholeOptimal, WholeUnbounded, Stopped}
-use Rattle.whole_solver.specs.declared.table.WholeTable.{WholeTable}
-use Rattle.compact_table.specs.declared.columns.Entering.{Entering}
-use Rattle.whole_solver.specs.Tables.{as_whole}
+use Rattle.integer_tableau.specs.declared.table.WholeTable.{WholeTable}
+use Rattle.fraction_tableau.specs.declared.columns.Entering.{Entering}
+use Rattle.integer_tableau.specs.Tables.{as_whole}
 use Rattle.simplex.specs.Spaces.{Contents, found, stopped, answer_of, contents_after, optimum_in, whole_optimum_in, contents_of, program_given, IsProgramGiven, IsFound, IsAt, direction_of}
 
 -- ---- numbers of the code
-at_value : {A : Type 0} (P : Fraction → Type 0) (value : A → Fraction) → P fraction_zero → ((a : A) → P (value a)) → (xs : List A) (j : ℕ) → P (at (map value xs) j)
-at_value P value z h [] j = z
-at_value P value z h (x ∷ xs) zero = h x
-at_value P value z h (x ∷ xs) (suc j) = at_value P value z h xs j
-
-pub lowest_entries : {A : Type 0} (value : A → Fraction) → ((a : A) → IsLowest (value a)) → (xs : List A) (j : ℕ) → IsLowest (at (map value xs) j)
-lowest_entries value low xs j = at_value IsLowest value (whole_is_lowest (pos 0)) low xs j
-
 both_at : (P : Fraction → Type 0) (xs ys : List Fraction) → ((j : ℕ) → P (at xs j)) → ((j : ℕ) → P (at ys j)) → (j : ℕ) → P (at (xs ++ ys) j)
 both_at P [] ys h k j = k j
 both_at P (x ∷ xs) ys h k zero = h 0
@@ -66,7 +59,7 @@ empty_is_program value costs low =
     record {
       coefficients = record { count = omega arith; lowest = none_at IsLowest (whole_is_lowest (pos 0)) };
       right_sides = record { count = refl; lowest = none_at IsLowest (whole_is_lowest (pos 0)); sign = none_at IsNotBelowZero zero_not_below };
-      costs = record { count = refl; lowest = lowest_entries value low costs };
+      costs = record { count = refl; lowest = lowest_all value low costs };
     }
 
 pub row_is_program : {A : Type 0} (value : A → Fraction) (p : LinearProgram) (a : List A) (b : A) → ((a : A) → IsLowest (value a)) → IsProgram p → length a ≡ p.variables → IsNotBelowZero (value b) → IsProgram (with_row p (map value a) (value b))
@@ -74,7 +67,7 @@ row_is_program value p a b low g width sign =
     record {
       coefficients = record {
         count = omega (arith, length-append p.coefficients (map value a), length-map a value, g.coefficients.count, width);
-        lowest = both_at IsLowest p.coefficients (map value a) g.coefficients.lowest (lowest_entries value low a);
+        lowest = both_at IsLowest p.coefficients (map value a) g.coefficients.lowest (lowest_all value low a);
       };
       right_sides = record {
         count = omega (arith, length-append p.right_sides (value b ∷ []), g.right_sides.count);

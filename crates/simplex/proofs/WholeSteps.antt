@@ -1,26 +1,26 @@
 -- One step of the run over rows of whole numbers, and from that run to the run over fractions.
 use Rattle.std.proofs.Common.{◌≡◌, ℕ, zero, suc, ◌+◌, ◌-◌, ◌<◌, length, refl, sym, ◌∙◌, ap, subst, arith, true}
 use Rattle.std.specs.Prelude.{Some, None}
-use Rattle.table_run.specs.Program.{LinearProgram}
-use Rattle.table_run.specs.Optimum.{IsProgram}
-use Rattle.table_run.specs.Table.{first_table}
-use Rattle.table_run.specs.Ending.{Ending, no_unit_left, unbounded, done}
-use Rattle.table_run.specs.Run.{Optimum, run}
-use Rattle.equal_runs.specs.Lines.{LineTable, rows_fit}
-use Rattle.table_run.specs.Choice.{Column}
-use Rattle.equal_runs.specs.WholeTurning.{whole_entering, whole_turn, turn_fits}
-use Rattle.equal_runs.specs.WholeRunning.{whole_read_off, whole_direction, whole_run_from, whole_run, first_whole_table}
-use Rattle.equal_runs.proofs.RunSteps.{runs_agree}
-use Rattle.whole_solver.specs.declared.table.WholeTable.{WholeTable}
-use Rattle.compact_table.specs.declared.columns.Entering.{Entering}
-use Rattle.compact_table.specs.Labels.{as_column}
-use Rattle.whole_solver.specs.Stored.{rows_in}
-use Rattle.whole_solver.specs.Tables.{as_whole, IsWithin, SameShape}
-use Rattle.whole_solver.proofs.Pivoting.{rows_fit_in}
-use Rattle.compact_table.specs.declared.table.Table.{Table}
-use Rattle.table_run.proofs.Listed.{listed_count}
+use Rattle.simplex_run.specs.Program.{LinearProgram}
+use Rattle.simplex_run.specs.Optimum.{IsProgram}
+use Rattle.simplex_run.specs.Table.{first_table}
+use Rattle.simplex_run.specs.Ending.{Ending, no_unit_left, unbounded, done}
+use Rattle.simplex_run.specs.Run.{Optimum, run}
+use Rattle.run_equivalence.specs.Lines.{LineTable, rows_fit}
+use Rattle.simplex_run.specs.Choice.{Column}
+use Rattle.run_equivalence.specs.WholeTurning.{whole_entering, whole_turn, turn_fits}
+use Rattle.run_equivalence.specs.WholeRunning.{whole_read_off, whole_direction, whole_run_from, whole_run, first_whole_table}
+use Rattle.run_equivalence.proofs.RunSteps.{runs_agree}
+use Rattle.integer_tableau.specs.declared.table.WholeTable.{WholeTable}
+use Rattle.fraction_tableau.specs.declared.columns.Entering.{Entering}
+use Rattle.fraction_tableau.specs.Labels.{as_column}
+use Rattle.integer_tableau.specs.Stored.{rows_in}
+use Rattle.integer_tableau.specs.Tables.{as_whole, IsWithin, SameShape}
+use Rattle.integer_tableau.proofs.Pivoting.{rows_fit_in}
+use Rattle.fraction_tableau.specs.declared.table.Table.{Table}
+use Rattle.simplex_run.proofs.Listed.{listed_count}
 use Rattle.exact_num.specs.Fraction.{Fraction}
-use Rattle.table_run.specs.Units.{units_of}
+use Rattle.simplex_run.specs.Units.{units_of}
 use Rattle.simplex.specs.Spaces.{answer_of, contents_after, whole_optimum_in}
 use Rattle.simplex.specs.Attempts.{IsStageOf, EndsInStop}
 use Rattle.simplex.specs.WholeEnds.{IsWholeEnd}

@@ -1,10 +1,10 @@
 -- What the answers of the code say of the run.
 use Rattle.std.specs.Prelude.{◌≡◌, ℕ, map, Result, Ok, Err}
 use Rattle.exact_num.specs.Fraction.{Fraction}
-use Rattle.table_run.specs.Program.{LinearProgram}
-use Rattle.table_run.specs.Ending.{Ending, done, unbounded, wide_at, no_unit_left}
-use Rattle.table_run.specs.Run.{Optimum, optimum}
-use Rattle.table_run.specs.Optimum.{IsOptimum, IsDirection}
+use Rattle.simplex_run.specs.Program.{LinearProgram}
+use Rattle.simplex_run.specs.Ending.{Ending, done, unbounded, wide_at, no_unit_left}
+use Rattle.simplex_run.specs.Run.{Optimum, optimum}
+use Rattle.simplex_run.specs.Optimum.{IsOptimum, IsDirection}
 use Rattle.simplex.specs.Spaces.{Contents, found, rising}
 use Rattle.simplex.specs.declared.solved.Solved.{Solved}
 use Rattle.simplex.specs.declared.solved.Solved.TheVariants.{Optimal, Unbounded}

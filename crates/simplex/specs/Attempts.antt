@@ -1,12 +1,12 @@
 -- What a run of the program that was given leaves.
 use Rattle.std.specs.Prelude.{◌≡◌, ℕ, Bool, true, false, Option, Some, None, Result, Ok, Err}
 use Rattle.exact_num.specs.Fraction.{Fraction}
-use Rattle.table_run.specs.Ending.{Ending}
-use Rattle.table_run.specs.Program.{LinearProgram}
-use Rattle.table_run.specs.Run.{Optimum}
-use Rattle.table_run.specs.Units.{units_of}
-use Rattle.compact_table.specs.declared.table.Table.{Table}
-use Rattle.whole_solver.specs.declared.table.WholeTable.{WholeTable}
+use Rattle.simplex_run.specs.Ending.{Ending}
+use Rattle.simplex_run.specs.Program.{LinearProgram}
+use Rattle.simplex_run.specs.Run.{Optimum}
+use Rattle.simplex_run.specs.Units.{units_of}
+use Rattle.fraction_tableau.specs.declared.table.Table.{Table}
+use Rattle.integer_tableau.specs.declared.table.WholeTable.{WholeTable}
 use Rattle.simplex.specs.declared.stage.Stage.{Stage}
 use Rattle.simplex.specs.declared.stage.Stage.TheVariants.{Empty, Given, Optimal, Unbounded, WholeOptimal, WholeUnbounded, Stopped}
 use Rattle.simplex.specs.declared.stop.RunStop.{RunStop}

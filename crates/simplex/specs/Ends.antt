@@ -1,9 +1,9 @@
 -- How a run over a table ends.
 use Rattle.std.specs.Prelude.{ℕ, Result, Ok, Err}
-use Rattle.table_run.specs.Ending.{Ending, unbounded, wide_at, no_unit_left}
-use Rattle.table_run.specs.Table.{Table}
-use Rattle.table_run.specs.Run.{Optimum, read_off, direction}
-use Rattle.compact_table.specs.Labels.{as_column}
+use Rattle.simplex_run.specs.Ending.{Ending, unbounded, wide_at, no_unit_left}
+use Rattle.simplex_run.specs.Table.{Table}
+use Rattle.simplex_run.specs.Run.{Optimum, read_off, direction}
+use Rattle.fraction_tableau.specs.Labels.{as_column}
 use Rattle.simplex.specs.declared.run.End.{End}
 use Rattle.simplex.specs.declared.run.End.TheVariants.{Optimal, Unbounded}
 use Rattle.simplex.specs.declared.stop.RunStop.{RunStop}

@@ -1,26 +1,26 @@
 -- What a space is to its callers.
 use Rattle.std.specs.Prelude.{◌≡◌, ℕ, ◌+◌, ◌<◌, ◌≤◌, List, [], length, Bool, true, false, Result, Ok, Err}
 use Rattle.exact_num.specs.Fraction.{Fraction}
-use Rattle.table_run.specs.Places.{fraction_zero, values_at}
-use Rattle.table_run.specs.Program.{LinearProgram}
-use Rattle.table_run.specs.Ending.{Ending, done, unbounded, wide_at, no_unit_left}
-use Rattle.table_run.specs.Optimum.{IsProgram}
-use Rattle.table_run.specs.Table.{Table as TableOf}
-use Rattle.table_run.specs.Run.{Optimum, optimum, solution, dual, reduced_costs, value_of as value_in, direction}
-use Rattle.compact_table.specs.declared.table.Table.{Table}
-use Rattle.compact_table.specs.Programs.{empty_program}
-use Rattle.compact_table.specs.Tables.{as_table, room_of}
-use Rattle.compact_table.specs.declared.sparse.SparseProgram.{SparseProgram}
-use Rattle.compact_table.specs.SparseRows.{program_in, HasRoom}
+use Rattle.simplex_run.specs.Places.{fraction_zero, values_at}
+use Rattle.simplex_run.specs.Program.{LinearProgram}
+use Rattle.simplex_run.specs.Ending.{Ending, done, unbounded, wide_at, no_unit_left}
+use Rattle.simplex_run.specs.Optimum.{IsProgram}
+use Rattle.simplex_run.specs.Table.{Table as TableOf}
+use Rattle.simplex_run.specs.Run.{Optimum, optimum, solution, dual, reduced_costs, value_of as value_in, direction}
+use Rattle.fraction_tableau.specs.declared.table.Table.{Table}
+use Rattle.fraction_tableau.specs.Programs.{empty_program}
+use Rattle.fraction_tableau.specs.Tables.{as_table, room_of}
+use Rattle.fraction_tableau.specs.declared.sparse.SparseProgram.{SparseProgram}
+use Rattle.fraction_tableau.specs.SparseRows.{program_in, HasRoom}
 use Rattle.simplex.specs.declared.stop.RunStop.{RunStop}
 use Rattle.simplex.specs.declared.stop.RunStop.TheVariants.{Wide, Budget}
 use Rattle.simplex.specs.declared.stage.Stage.{Stage}
 use Rattle.simplex.specs.declared.stage.Stage.TheVariants.{Empty, Given, Optimal, Unbounded, WholeOptimal, WholeUnbounded, Stopped}
-use Rattle.equal_runs.specs.Lines.{entry_of, LineTable}
-use Rattle.equal_runs.specs.WholeRunning.{whole_price, whole_solution, whole_direction}
-use Rattle.whole_solver.specs.declared.table.WholeTable.{WholeTable}
-use Rattle.compact_table.specs.Labels.{as_column}
-use Rattle.whole_solver.specs.Tables.{as_whole, IsWithin}
+use Rattle.run_equivalence.specs.Lines.{entry_of, LineTable}
+use Rattle.run_equivalence.specs.WholeRunning.{whole_price, whole_solution, whole_direction}
+use Rattle.integer_tableau.specs.declared.table.WholeTable.{WholeTable}
+use Rattle.fraction_tableau.specs.Labels.{as_column}
+use Rattle.integer_tableau.specs.Tables.{as_whole, IsWithin}
 
 -- the program given since the last begin; or what the last run since then told: its optimum, a
 -- direction, or that it stopped

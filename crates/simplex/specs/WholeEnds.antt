@@ -1,11 +1,11 @@
 -- How a run over rows of whole numbers ends.
 use Rattle.std.specs.Prelude.{◌≡◌, ℕ, ◌<◌, length, Option, Some}
-use Rattle.table_run.specs.Ending.{Ending, unbounded, no_unit_left}
-use Rattle.table_run.specs.Run.{Optimum}
-use Rattle.equal_runs.specs.WholeRunning.{whole_read_off, whole_direction}
-use Rattle.whole_solver.specs.declared.table.WholeTable.{WholeTable}
-use Rattle.compact_table.specs.Labels.{as_column}
-use Rattle.whole_solver.specs.Tables.{as_whole, IsWithin}
+use Rattle.simplex_run.specs.Ending.{Ending, unbounded, no_unit_left}
+use Rattle.simplex_run.specs.Run.{Optimum}
+use Rattle.run_equivalence.specs.WholeRunning.{whole_read_off, whole_direction}
+use Rattle.integer_tableau.specs.declared.table.WholeTable.{WholeTable}
+use Rattle.fraction_tableau.specs.Labels.{as_column}
+use Rattle.integer_tableau.specs.Tables.{as_whole, IsWithin}
 use Rattle.simplex.specs.declared.whole_run.WholeEnd.{WholeEnd}
 use Rattle.simplex.specs.declared.whole_run.WholeEnd.TheVariants.{Optimal, Unbounded, NoUnit, GivenUp}
 

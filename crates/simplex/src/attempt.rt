@@ -1,9 +1,9 @@
 //! The run of a program: over rows of whole numbers, or over fractions where those are given up.
 ghost use Rattle.std.specs.Prelude.{◌≡◌, ◌+◌, ◌-◌, ◌<◌, ◌≤◌, None, length, unsigned_abs};
-ghost use Rattle.table_run.specs.Run.{run as run_of};
-ghost use Rattle.compact_table.specs.Tables.{program_in as program_in_table, room_of, IsGiven, SameRoom, SameShape};
-ghost use Rattle.compact_table.specs.SparseRows.{program_in};
-ghost use Rattle.table_run.specs.Optimum.{IsProgram};
+ghost use Rattle.simplex_run.specs.Run.{run as run_of};
+ghost use Rattle.fraction_tableau.specs.Tables.{program_in as program_in_table, room_of, IsGiven, SameRoom, SameShape};
+ghost use Rattle.fraction_tableau.specs.SparseRows.{program_in};
+ghost use Rattle.simplex_run.specs.Optimum.{IsProgram};
 ghost use Rattle.simplex.specs.Attempts.{IsEndOf, IsTried};
 
 use crate::budget::Budget;
@@ -11,9 +11,9 @@ use crate::run::{End, run};
 use crate::stage::Stage;
 use crate::stop::RunStop;
 use crate::whole_run::{WholeEnd, whole_run};
-use compact_table::{SparseProgram, Table};
 use exact_num::Exact;
-use whole_solver::WholeTable;
+use fraction_tableau::{SparseProgram, Table};
+use integer_tableau::WholeTable;
 
 /// The run over rows of whole numbers, or None where it is given up: then the budget is what it
 /// was.

@@ -1,7 +1,7 @@
 //! How many units a run can need.
 ghost use Rattle.std.specs.Prelude.{◌≡◌, ◌+◌, ◌*◌, ◌/◌, ◌^◌, ◌<◌, ◌≤◌, ◌↔◌, IfSome, IsSome, Some, None, if◌then◌else◌, nat_lt};
-ghost use Rattle.table_run.specs.Choose.{choose};
-ghost use Rattle.compact_table.specs.declared.limits.TheConstants.{MAX_SIDE};
+ghost use Rattle.simplex_run.specs.Choose.{choose};
+ghost use Rattle.fraction_tableau.specs.declared.limits.TheConstants.{MAX_SIDE};
 
 /// The number of ways to choose `rows` of `variables + rows`, or None where that is above
 /// `2^63 - 1`: with so many units left, a run of a program of that size does not end for want of

@@ -1,6 +1,6 @@
 //! Rows of numbers, filled from their front on.
 ghost use Rattle.std.specs.Prelude.{◌≡◌, ◌++◌, IfOk, OnOk, map, replicate, vec_len};
-ghost use Rattle.table_run.specs.Places.{fraction_zero};
+ghost use Rattle.simplex_run.specs.Places.{fraction_zero};
 
 use exact_num::Exact;
 use std::alloc::{AllocError, Global};

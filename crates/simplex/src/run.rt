@@ -1,13 +1,13 @@
 //! The run over a table.
 ghost use Rattle.std.specs.Prelude.{◌≡◌, ◌-◌, ◌<◌, Ok, Err, ℕ, length, unsigned_abs};
-ghost use Rattle.table_run.specs.Run.{run_from};
-ghost use Rattle.compact_table.specs.Tables.{as_table, SameShape};
+ghost use Rattle.simplex_run.specs.Run.{run_from};
+ghost use Rattle.fraction_tableau.specs.Tables.{as_table, SameShape};
 ghost use Rattle.simplex.specs.Ends.{ending_of};
 
 use crate::budget::Budget;
 use crate::stop::RunStop;
-use compact_table::{Entering, Table};
 use exact_num::Exact;
+use fraction_tableau::{Entering, Table};
 
 /// How a run that did not stop ends.
 #[derive(Clone, Copy)]

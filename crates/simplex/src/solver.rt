@@ -1,10 +1,10 @@
 //! The solver.
 ghost use Rattle.std.specs.Prelude.{◌≡◌, ◌-◌, ◌*◌, ◌<◌, ◌≤◌, Err, IfOk, length, map, unsigned_abs, vec_len};
 ghost use Rattle.std.specs.List.{All};
-ghost use Rattle.table_run.specs.Choose.{bases_of};
+ghost use Rattle.simplex_run.specs.Choose.{bases_of};
 ghost use Rattle.exact_num.specs.Fraction.{IsNotBelowZero};
-ghost use Rattle.table_run.specs.Run.{run as run_of};
-ghost use Rattle.compact_table.specs.declared.limits.TheConstants.{MAX_SIDE};
+ghost use Rattle.simplex_run.specs.Run.{run as run_of};
+ghost use Rattle.fraction_tableau.specs.declared.limits.TheConstants.{MAX_SIDE};
 ghost use Rattle.simplex.specs.Answers.{HoldsOf, IsAnswer, solved_contents};
 ghost use Rattle.simplex.specs.Programs.{as_program};
 ghost use Rattle.simplex.specs.Spaces.{given, IsFound, IsRising, x_of, y_of, reduced_of, direction_of};

@@ -1,24 +1,24 @@
 //! Room for the runs of programs, kept from one to the next.
 ghost use Rattle.std.specs.Prelude.{◌≡◌, ◌+◌, ◌-◌, ◌*◌, ◌^◌, ◌<◌, ◌≤◌, Err, IfOk, OnOk, length, map, unsigned_abs};
-ghost use Rattle.table_run.specs.Choose.{bases_of};
-ghost use Rattle.table_run.specs.Optimum.{IsAsSaid};
+ghost use Rattle.simplex_run.specs.Choose.{bases_of};
+ghost use Rattle.simplex_run.specs.Optimum.{IsAsSaid};
 ghost use Rattle.exact_num.specs.Fraction.{IsNotBelowZero};
-ghost use Rattle.table_run.specs.Places.{at};
-ghost use Rattle.table_run.specs.Run.{run as run_of};
-ghost use Rattle.table_run.specs.Units.{units_of};
-ghost use Rattle.compact_table.specs.Programs.{empty_program, with_row};
-ghost use Rattle.compact_table.specs.declared.limits.TheConstants.{MAX_SIDE};
+ghost use Rattle.simplex_run.specs.Places.{at};
+ghost use Rattle.simplex_run.specs.Run.{run as run_of};
+ghost use Rattle.simplex_run.specs.Units.{units_of};
+ghost use Rattle.fraction_tableau.specs.Programs.{empty_program, with_row};
+ghost use Rattle.fraction_tableau.specs.declared.limits.TheConstants.{MAX_SIDE};
 
 use crate::attempt::run_given;
 use crate::budget::Budget;
 use crate::fill::zeros;
 use crate::stage::Stage;
 use crate::stop::RunStop;
-use compact_table::{SparseProgram, Table};
 use exact_num::Exact;
+use fraction_tableau::{SparseProgram, Table};
+use integer_tableau::WholeTable;
 use std::alloc::{AllocError, Global};
 use std::marker::Model;
-use whole_solver::WholeTable;
 
 /// Room for the runs of programs of so many rows and variables, one after another. Only `new` and
 /// `reserve` take memory.

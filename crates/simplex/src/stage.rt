@@ -1,7 +1,7 @@
 //! What stands in a space.
 ghost use Rattle.std.specs.Prelude.{◌≡◌};
 
-use compact_table::Entering;
+use fraction_tableau::Entering;
 
 /// What stands in a space.
 #[derive(Clone, Copy)]

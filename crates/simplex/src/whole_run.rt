@@ -1,13 +1,13 @@
 //! The run over rows of whole numbers.
 ghost use Rattle.std.specs.Prelude.{◌≡◌, ◌-◌, ◌^◌, ◌≤◌, ℕ};
-ghost use Rattle.equal_runs.specs.WholeRunning.{whole_run_from};
-ghost use Rattle.whole_solver.specs.Tables.{as_whole, IsWithin, SameShape};
-ghost use Rattle.equal_runs.specs.Lines.{widest};
+ghost use Rattle.run_equivalence.specs.WholeRunning.{whole_run_from};
+ghost use Rattle.integer_tableau.specs.Tables.{as_whole, IsWithin, SameShape};
+ghost use Rattle.run_equivalence.specs.Lines.{widest};
 ghost use Rattle.simplex.specs.WholeEnds.{IsWholeEnd};
 
 use crate::budget::Budget;
-use compact_table::Entering;
-use whole_solver::{Turn, WholeTable};
+use fraction_tableau::Entering;
+use integer_tableau::{Turn, WholeTable};
 
 /// How a run over rows of whole numbers ends.
 #[derive(Clone, Copy)]

@@ -1,15 +1,12 @@
 use Rattle.std.proofs.Common.{◌≡◌, ◌^◌, ◌≤◌, ℤ, map, unsigned_abs, ap, sym, subst, ◌∙◌}
 use Rattle.std.specs.Int.{int_max}
-use Rattle.std.specs.List.{flat_map}
 use Rattle.std.proofs.lemmas.Int.{to_z-of_z}
 use mir.Syntax.{w128}
-use Rattle.form.specs.declared.orders.Order.{Order}
-use Rattle.form.specs.Payoff.{bundle_legs}
 use Rattle.account_need.specs.Line.{highest_state, lowest_state}
-use Rattle.account_need.specs.Prices.{bound_at, in_code, option_sum, with_bends}
-use Rattle.account_need.specs.Rounded.{option_in, options_of}
-use Rattle.account_need.proofs.LineBounds.{line_bound_is, with_bends-append}
+use Rattle.account_need.specs.Prices.{bound_at, in_code, option_sum, turning_live, turning_sums, with_bends}
+use Rattle.account_need.proofs.LineBounds.{with_bends-append}
 use Rattle.account_need.proofs.LineFits.{bound_fits, max_small}
+use Rattle.account_need.proofs.Turning.{line_bound_turns}
 use Rattle.account_need.proofs.line.line_bound.Goals as goal
 
 pub returns-clause-bound : goal.returns-clause-bound
@@ -19,8 +16,8 @@ returns-clause-bound c = λ positions.
     let b = c.bound-highest.result in
     let s = c.with_sums.result in
     let l = c.with_live.result in
-    let xs = map option_in (map option_sum c.args.sums.now) in
-    let ys = flat_map (λ (o : Order). options_of (bundle_legs o.bundle)) c.args.live.now in
+    let xs = turning_sums (map option_sum c.args.sums.now) in
+    let ys = turning_live c.args.live.now in
     let ea = to_z-of_z w128 a (bound_fits a c.bound-lowest.ensures.small) in
     let eb = to_z-of_z w128 b (bound_fits b c.bound-highest.ensures.small) in
     let em : c.max.result ≡ int_max a b = rw (ea, eb) at c.max.ensures.value in
@@ -33,4 +30,4 @@ returns-clause-bound c = λ positions.
     let ends : int_max a b ≡ int_max (bound_at p lowest_state) (bound_at p highest_state) = (λ i. int_max (c.bound-lowest.ensures.bound positions i) (c.bound-highest.ensures.bound positions i)) in
     rw (fl)
     (el ∙ ap (λ (z : ℤ). with_bends p z ys) (es ∙ ap (λ (z : ℤ). with_bends p z xs) (em ∙ ends))
-    ∙ sym (line_bound_is p ∙ with_bends-append p (int_max (bound_at p lowest_state) (bound_at p highest_state)) xs ys))
+    ∙ sym (line_bound_turns p ∙ with_bends-append p (int_max (bound_at p lowest_state) (bound_at p highest_state)) xs ys))

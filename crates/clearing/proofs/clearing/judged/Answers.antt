@@ -2,8 +2,8 @@ use Rattle.std.proofs.Common.{refl, subst}
 use Rattle.std.proofs.lemmas.Result.{err_from_is_err_and}
 use Rattle.frac.specs.Value.{fraction_of}
 use Rattle.simplex.specs.Stops.{stop_of}
-use Rattle.rounds.specs.Answers.{IsJointAnswer, as_stopped}
-use Rattle.rounds.proofs.Certified.{judged_after, stops_before}
+use Rattle.constraint_generation.specs.Answers.{IsJointAnswer, as_stopped}
+use Rattle.constraint_generation.proofs.Certified.{judged_after, stops_before}
 use Rattle.clearing.specs.Outcome.{judged}
 use Rattle.clearing.proofs.clearing.judged.Goals as goal
 

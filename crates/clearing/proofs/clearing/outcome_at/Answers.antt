@@ -2,7 +2,7 @@ use Rattle.std.proofs.Common.{arith, ◌≡◌, ◌∙◌, ap, subst}
 use Rattle.frac.specs.Value.{fraction_of}
 use Rattle.simplex.specs.Stops.{stop_of}
 use Rattle.simplex.specs.declared.stop.RunStop.TheVariants.{Wide as WideStop, Budget as BudgetStop}
-use Rattle.rounds.specs.Answers.{IsJointAnswer, as_stopped, reading_in}
+use Rattle.constraint_generation.specs.Answers.{IsJointAnswer, as_stopped, reading_in}
 use Rattle.clearing.specs.Outcome.{run_of}
 use Rattle.clearing.proofs.OutcomeEnds.{outcome_of-done, outcome_of-wide_at, outcome_of-no_unit_left, IsJointAnswer-wide, IsJointAnswer-budget}
 use Rattle.clearing.proofs.Values.{joint_has_values}

@@ -1,10 +1,13 @@
 use Rattle.std.proofs.Common.{◌≡◌, ℕ, refl, sym, subst, arith}
 use Rattle.asked_lines.specs.Asked.{AskedState, asked_step, asking_first}
 use Rattle.asked_lines.specs.Standing.{StandsAsked}
+use Rattle.member_lines.specs.Ready.{AreReady}
 use Rattle.program_words.specs.declared.requests.Served.TheVariants as served
 use Rattle.secured_lines.specs.Asked.{asked_line, secured_asks}
 use Rattle.secured_lines.specs.Output.{secured_line}
 use Rattle.secured_lines.specs.SecuredState.{SecuredState, empty_secured}
+use Rattle.served_members.specs.Members.{empty_members, member_body, member_question}
+use Rattle.served_members.proofs.Standing.{stands_first}
 use Rattle.session_lines.specs.Questions.{any_asks, session_asks}
 use Rattle.session_lines.specs.Sessions.{any_session, new_sessions, session_step}
 use Rattle.session_lines.specs.Standing.{StandsBefore}
@@ -37,3 +40,12 @@ pub serve_as-requires-in-Sessions-clause-same : goal.serve_as-requires-in-Sessio
 serve_as-requires-in-Sessions-clause-same g c = λ input.
     output_is (asked_step (session_asks (any_asks secured_asks)) (session_step (any_session secured_line))) c.args.served served.Sessions c.asked_sessions.result
     (asking_first (new_sessions empty_secured)) c.in-Sessions.is c.asked_sessions.ensures input refl
+
+pub serve_as-requires-in-Members-clause-first : goal.serve_as-requires-in-Members-clause-first
+serve_as-requires-in-Members-clause-first g c =
+    first_asked (StandsBefore AreReady) c.asked_members.result (new_sessions empty_members) c.asked_members.ensures stands_first
+
+pub serve_as-requires-in-Members-clause-same : goal.serve_as-requires-in-Members-clause-same
+serve_as-requires-in-Members-clause-same g c = λ input.
+    output_is (asked_step (session_asks member_question) (session_step member_body)) c.args.served served.Members c.asked_members.result
+    (asking_first (new_sessions empty_members)) c.in-Members.is c.asked_members.ensures input refl

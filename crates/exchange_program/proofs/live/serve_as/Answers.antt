@@ -1,4 +1,3 @@
-use Rattle.std.proofs.Common.{subst}
 use Rattle.live_lines.proofs.Serves.{counts_of, known_of}
 use Rattle.exchange_program.proofs.AnsweredLive.{answered, answered_in_time}
 use Rattle.exchange_program.proofs.live.serve_as.Goals as goal

@@ -1,6 +1,6 @@
 use Rattle.std.proofs.Common.{◌≡◌, ℕ, List, true, sym, ap, subst, ◌∙◌}
 use Rattle.std.specs.Io.KnownBytes.{Appends}
-use Rattle.port_io.specs.Writes.{AppendsFront}
+use Rattle.byte_streams.specs.Writes.{AppendsFront}
 use Rattle.exchange_core.specs.ExchangeState.{empty_exchange}
 use Rattle.live_lines.specs.Output.{output_of}
 use Rattle.live_lines.proofs.Fronts.{on_err}

@@ -1,6 +1,6 @@
 use Rattle.std.proofs.Common.{◌≡◌, ℕ, List, false, ap, ◌∙◌, arith, subst, OnErr, OnOk}
 use Rattle.std.specs.Io.KnownBytes.{Appends}
-use Rattle.port_io.specs.Writes.{AppendsFront}
+use Rattle.byte_streams.specs.Writes.{AppendsFront}
 use Rattle.exchange_core.specs.ExchangeState.{ExchangeState, empty_exchange}
 use Rattle.exchange_lines.specs.Output.{line_output}
 use Rattle.live_lines.specs.Output.{output_of}
@@ -19,9 +19,9 @@ answer_whole-requires-clause-first g c = (omega (arith, ap (λ (s : SessionsStat
 pub returns-clause-ok : goal.returns-clause-ok
 returns-clause-ok g c =
     subst (λ output. OnOk c.answer_whole.result (Appends (g.K.Sink.written c.args.sink.now) (g.K.Sink.written c.answer_whole.new.sink) output))
-    (output_is c.new-messages.result c.args.input.now (c.new-messages.ensures ∙ ap new_sessions c.new.ensures)) c.answer_whole.ensures.ok
+    (output_is c.new-messages.result c.args.input.now (c.new-messages.ensures ∙ ap new_sessions (c.new-lines.ensures ∙ c.new.ensures))) c.answer_whole.ensures.ok
 
 pub returns-clause-front : goal.returns-clause-front
 returns-clause-front g c =
     subst (λ output. OnErr c.answer_whole.result (AppendsFront (g.K.Sink.written c.args.sink.now) (g.K.Sink.written c.answer_whole.new.sink) output))
-    (output_is c.new-messages.result c.args.input.now (c.new-messages.ensures ∙ ap new_sessions c.new.ensures)) c.answer_whole.ensures.front
+    (output_is c.new-messages.result c.args.input.now (c.new-messages.ensures ∙ ap new_sessions (c.new-lines.ensures ∙ c.new.ensures))) c.answer_whole.ensures.front

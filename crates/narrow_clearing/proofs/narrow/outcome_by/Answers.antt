@@ -1,7 +1,7 @@
 use Rattle.std.proofs.Common.{ap, ◌∙◌, sym, subst, unsigned_abs}
 use Rattle.simplex.specs.Stops.{stop_of}
-use Rattle.rounds.specs.Answers.{IsCoverAs, reading_in}
-use Rattle.table_run.specs.Ending.{HasNoMisfit, done, no_unit_left}
+use Rattle.constraint_generation.specs.Answers.{IsCoverAs, reading_in}
+use Rattle.simplex_run.specs.Ending.{HasNoMisfit, done, no_unit_left}
 use Rattle.clearing.proofs.OutcomeEnds.{IsJointAnswer-budget}
 use Rattle.narrow_clearing.specs.Passes.{unjudged_in}
 use Rattle.narrow_clearing.proofs.NarrowRuns.{narrow_run, run_with}

@@ -1,7 +1,7 @@
 use Rattle.std.proofs.Common.{refl, sym, subst}
 use Rattle.frac.specs.Value.{fraction_of}
 use Rattle.form.specs.States.{vector_of}
-use Rattle.table_run.specs.Ending.{Ending}
+use Rattle.simplex_run.specs.Ending.{Ending}
 use Rattle.portfolio_margin.specs.Answers.{IsEndOf, asked_in}
 use Rattle.portfolio_margin.specs.Run.{Margin}
 use Rattle.portfolio_margin.proofs.Turns.{run_starts, run_stops}

@@ -1,7 +1,7 @@
 use Rattle.std.proofs.Common.{◌∙◌, sym, map, unsigned_abs}
 use Rattle.exact_num.proofs.Loops.{stops, ends}
 use Rattle.sign_tree.specs.Read.{sign_of}
-use Rattle.table_run.specs.Places.{fraction_zero}
+use Rattle.simplex_run.specs.Places.{fraction_zero}
 use Rattle.pricing_oracle.specs.Nodes.{add_earned_by, legs_asked}
 use Rattle.pricing_oracle.proofs.ByRole.{earned_is}
 use Rattle.pricing_oracle.proofs.costs.earned_at.Goals as goal

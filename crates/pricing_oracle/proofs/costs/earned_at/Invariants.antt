@@ -2,7 +2,7 @@ use Rattle.std.proofs.Common.{◌≡◌, length, map, unsigned_abs}
 use Rattle.exact_num.specs.Steps.{fold_steps}
 use Rattle.sign_tree.specs.Left.{IsAtLeg}
 use Rattle.sign_tree.specs.Read.{sign_of}
-use Rattle.table_run.specs.Places.{fraction_zero}
+use Rattle.simplex_run.specs.Places.{fraction_zero}
 use Rattle.pricing_oracle.specs.Nodes.{add_earned_by, in_roles, legs_asked, roles_left}
 use Rattle.pricing_oracle.proofs.costs.earned_at.Given as goal
 

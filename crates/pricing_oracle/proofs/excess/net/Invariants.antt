@@ -3,7 +3,7 @@ use Rattle.exact_num.specs.Steps.{fold_steps}
 use Rattle.frac.specs.Range.{limit}
 use Rattle.form.specs.States.{vector_of}
 use Rattle.master_program.specs.Search.{add_filled}
-use Rattle.table_run.specs.Places.{fraction_zero}
+use Rattle.simplex_run.specs.Places.{fraction_zero}
 use Rattle.pricing_oracle.proofs.excess.net.Given as goal
 
 -- the sum from here on is the sum

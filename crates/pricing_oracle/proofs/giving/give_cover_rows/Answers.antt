@@ -1,12 +1,12 @@
 use Rattle.std.proofs.Common.{◌≡◌, ◌+◌, ◌-◌, ◌<◌, ◌∙◌, arith, ap, sym, subst, refl, length, map, unsigned_abs}
 use Rattle.std.proofs.lemmas.Result.{err_from_is_err_and}
 use Rattle.std.proofs.lemmas.List.{length-map}
-use Rattle.compact_table.specs.Programs.{with_row}
+use Rattle.fraction_tableau.specs.Programs.{with_row}
 use Rattle.form.specs.Payoff.{option_of}
 use Rattle.sign_tree.specs.Left.{leg_as}
 use Rattle.sign_tree.specs.Read.{sign_of}
 use Rattle.simplex.specs.Spaces.{Workspace, given, program_given}
-use Rattle.table_run.specs.Places.{fraction_zero}
+use Rattle.simplex_run.specs.Places.{fraction_zero}
 use Rattle.pricing_oracle.specs.Nodes.{covering_of, legs_asked, role_leg_as, roles_left}
 use Rattle.pricing_oracle.specs.Programs.{IsOpen, given_with}
 use Rattle.pricing_oracle.proofs.ByRole.{cover_count_is, covering_first}

@@ -4,12 +4,12 @@ use Rattle.std.proofs.Common.{◌≡◌, ◌+◌, ◌≤◌, ◌∙◌, arith, a
 use Rattle.std.proofs.lemmas.Result.{err_from_is_err_and}
 use Rattle.std.proofs.lemmas.List.{length-map}
 use Rattle.exact_num.specs.Fraction.{whole}
-use Rattle.compact_table.specs.Programs.{empty_program, with_row}
+use Rattle.fraction_tableau.specs.Programs.{empty_program, with_row}
 use Rattle.sign_tree.specs.Read.{sign_of}
 use Rattle.simplex.specs.Spaces.{Contents, Workspace, IsProgramGiven, given, program_given}
 use Rattle.master_program.specs.Node.{covers_of, minus_units, signed_of, size_row}
 use Rattle.master_program.specs.NodeSteps.{counted_node, cover_rows_steps}
-use Rattle.table_run.specs.Places.{fraction_zero}
+use Rattle.simplex_run.specs.Places.{fraction_zero}
 use Rattle.pricing_oracle.specs.Nodes.{legs_asked}
 use Rattle.pricing_oracle.specs.Programs.{IsOpen, costs_steps}
 use Rattle.pricing_oracle.proofs.ByRole.{cover_count_is, node_is}

@@ -3,7 +3,7 @@ use Rattle.std.proofs.Common.{◌≡◌, ◌≤◌, ◌+◌, length, map, replic
 use Rattle.sign_tree.specs.Left.{IsAtLeg}
 use Rattle.sign_tree.specs.Read.{sign_of}
 use Rattle.simplex.specs.Spaces.{program_given}
-use Rattle.table_run.specs.Places.{fraction_zero}
+use Rattle.simplex_run.specs.Places.{fraction_zero}
 use Rattle.pricing_oracle.specs.Nodes.{in_roles, legs_asked, roles_left}
 use Rattle.pricing_oracle.specs.Programs.{HasSameSize, IsOpen, given_with}
 use Rattle.pricing_oracle.proofs.GivenRows.{signed_count, signed_rows_from}

@@ -7,9 +7,9 @@ use Rattle.exact_num.specs.Tests.{is_above_zero}
 use Rattle.sign_tree.specs.Read.{sign_of}
 use Rattle.simplex.specs.Spaces.{program_given, reduced_of, value_of, x_of, y_of}
 use Rattle.master_program.specs.Search.{legs_in, node_at, leaf_of, on_optimum, program_at}
-use Rattle.table_run.specs.Ending.{no_unit_left}
-use Rattle.table_run.specs.Optimum.{IsAsSaid, IsOptimum}
-use Rattle.table_run.specs.Run.{run}
+use Rattle.simplex_run.specs.Ending.{no_unit_left}
+use Rattle.simplex_run.specs.Optimum.{IsAsSaid, IsOptimum}
+use Rattle.simplex_run.specs.Run.{run}
 use Rattle.pricing_oracle.specs.Searches.{HasShown, asked_within, parts_of}
 use Rattle.pricing_oracle.proofs.Answered.{is_asked}
 use Rattle.pricing_oracle.proofs.NodeEnds.{above_zero, at_zero, built_there, first_are_direction, never_ends_so, never_rises, no_unit, optimum_there, program_stops, run_here, run_stops, steps_have_shape}

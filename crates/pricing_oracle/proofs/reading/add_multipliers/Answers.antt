@@ -6,7 +6,7 @@ use Rattle.master_program.specs.Node.{covers_of, signed_of}
 use Rattle.master_program.specs.Roles.{leg_multipliers, placed_from}
 use Rattle.master_program.specs.Search.{leaf_of, multipliers_of}
 use Rattle.master_program.specs.NodeSteps.{counted_node}
-use Rattle.table_run.specs.Places.{fraction_zero}
+use Rattle.simplex_run.specs.Places.{fraction_zero}
 use Rattle.pricing_oracle.specs.Nodes.{covering_of, legs_asked, node_leg, role_leg_as, roles_left}
 use Rattle.pricing_oracle.proofs.ByRole.{cover_count_is, few_roles, node_is}
 use Rattle.pricing_oracle.proofs.GivenRows.{few_rows}

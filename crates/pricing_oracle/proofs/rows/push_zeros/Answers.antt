@@ -1,5 +1,5 @@
 use Rattle.std.proofs.Common.{arith}
-use Rattle.table_run.specs.Places.{fraction_zero}
+use Rattle.simplex_run.specs.Places.{fraction_zero}
 use Rattle.pricing_oracle.proofs.WrittenRows.{one_more}
 use Rattle.pricing_oracle.proofs.rows.push_zeros.Goals as goal
 

@@ -1,6 +1,6 @@
 use Rattle.std.specs.Prelude.{vec_capacity, vec_len}
 use Rattle.std.proofs.Common.{◌≡◌, ◌+◌, ◌≤◌, ◌++◌, map, replicate}
-use Rattle.table_run.specs.Places.{fraction_zero}
+use Rattle.simplex_run.specs.Places.{fraction_zero}
 use Rattle.pricing_oracle.proofs.rows.push_zeros.Given as goal
 
 abbrev pub invariant-loop-i : goal.invariant-loop-i

@@ -1,9 +1,9 @@
 use Rattle.std.proofs.Common.{◌≡◌, ◌<◌, ◌≤◌, ◌∙◌, ap, arith, length, map, take, ℕ}
 use Rattle.std.specs.Prelude.{slice_index_or}
 use Rattle.std.proofs.lemmas.List.{take_all}
-use Rattle.compact_table.specs.Programs.{program_of}
-use Rattle.compact_table.specs.Tables.{program_in as program_in_table}
-use Rattle.compact_table.specs.SparseRows.{lists_of}
+use Rattle.fraction_tableau.specs.Programs.{program_of}
+use Rattle.fraction_tableau.specs.Tables.{program_in as program_in_table}
+use Rattle.fraction_tableau.specs.SparseRows.{lists_of}
 use Rattle.simplex.proofs.SpaceSteps.{one_given, rows_listed}
 use Rattle.simplex.proofs.attempt.give.Goals as goal
 

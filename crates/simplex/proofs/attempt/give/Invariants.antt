@@ -1,7 +1,7 @@
 use Rattle.std.proofs.Common.{◌≡◌, ◌+◌, length, map, take}
-use Rattle.compact_table.specs.Programs.{program_of}
-use Rattle.compact_table.specs.Tables.{program_in as program_in_table, IsGiven, SameRoom}
-use Rattle.compact_table.specs.SparseRows.{lists_of}
+use Rattle.fraction_tableau.specs.Programs.{program_of}
+use Rattle.fraction_tableau.specs.Tables.{program_in as program_in_table, IsGiven, SameRoom}
+use Rattle.fraction_tableau.specs.SparseRows.{lists_of}
 use Rattle.simplex.proofs.attempt.give.Given as goal
 
 -- the rows before i are given

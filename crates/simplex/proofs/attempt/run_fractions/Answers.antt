@@ -1,10 +1,10 @@
 use Rattle.std.proofs.Common.{◌≡◌, ◌-◌, ◌∙◌, sym, ap, length, unsigned_abs}
 use Rattle.std.specs.Prelude.{Ok}
-use Rattle.table_run.specs.Ending.{done, unbounded}
-use Rattle.table_run.specs.Units.{units_of}
-use Rattle.table_run.specs.Run.{run, direction}
-use Rattle.compact_table.specs.Labels.{as_column}
-use Rattle.compact_table.specs.Tables.{as_table, program_in}
+use Rattle.simplex_run.specs.Ending.{done, unbounded}
+use Rattle.simplex_run.specs.Units.{units_of}
+use Rattle.simplex_run.specs.Run.{run, direction}
+use Rattle.fraction_tableau.specs.Labels.{as_column}
+use Rattle.fraction_tableau.specs.Tables.{as_table, program_in}
 use Rattle.simplex.specs.Ends.{ending_of}
 use Rattle.simplex.specs.Spaces.{answer_of, contents_after, optimum_in}
 use Rattle.simplex.proofs.SpaceSteps.{ending_is, found_is, stop_answer}

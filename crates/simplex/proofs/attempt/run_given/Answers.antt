@@ -1,13 +1,13 @@
 use Rattle.std.proofs.Common.{◌-◌, sym, subst, unsigned_abs}
 use Rattle.std.specs.Prelude.{Option, Result}
-use Rattle.table_run.specs.Program.{LinearProgram}
-use Rattle.table_run.specs.Run.{run}
-use Rattle.compact_table.specs.SparseRows.{program_in}
+use Rattle.simplex_run.specs.Program.{LinearProgram}
+use Rattle.simplex_run.specs.Run.{run}
+use Rattle.fraction_tableau.specs.SparseRows.{program_in}
 use Rattle.simplex.specs.declared.budget.Budget.{Budget}
 use Rattle.simplex.specs.declared.stage.Stage.{Stage}
 use Rattle.simplex.specs.declared.stop.RunStop.{RunStop}
 use Rattle.simplex.specs.Attempts.{IsTried, IsEndOf}
-use Rattle.table_run.specs.Optimum.{IsProgram}
+use Rattle.simplex_run.specs.Optimum.{IsProgram}
 use Rattle.simplex.proofs.attempt.run_given.Goals as goal
 
 pub returns-in-Some-clause-run : goal.returns-in-Some-clause-run

@@ -1,5 +1,5 @@
 use Rattle.std.proofs.Common.{◌≡◌, ◌+◌, ◌^◌, ◌<◌}
-use Rattle.table_run.specs.Choose.{choose}
+use Rattle.simplex_run.specs.Choose.{choose}
 use Rattle.simplex.proofs.counting.ways.Given as goal
 
 -- the number of ways to choose k, which is not too great

@@ -1,7 +1,7 @@
 use Rattle.std.proofs.Common.{◌<◌, ◌∙◌, sym, map, length, replicate}
 use Rattle.std.proofs.lemmas.List.{length-replicate}
-use Rattle.table_run.specs.Places.{fraction_zero}
-use Rattle.table_run.proofs.UnitRows.{at-zeros}
+use Rattle.simplex_run.specs.Places.{fraction_zero}
+use Rattle.simplex_run.proofs.UnitRows.{at-zeros}
 use Rattle.simplex.proofs.FillSteps.{pushed}
 use Rattle.simplex.proofs.fill.push_zeros.Goals as goal
 

@@ -1,5 +1,5 @@
 use Rattle.std.proofs.Common.{◌≡◌, ◌++◌, map, replicate, take}
-use Rattle.table_run.specs.Places.{fraction_zero}
+use Rattle.simplex_run.specs.Places.{fraction_zero}
 use Rattle.simplex.proofs.fill.push_zeros.Given as goal
 
 abbrev pub invariant-loop-i : goal.invariant-loop-i

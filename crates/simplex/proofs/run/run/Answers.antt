@@ -1,13 +1,13 @@
 use Rattle.std.proofs.Common.{◌≡◌, ◌-◌, ℕ, ◌∙◌, sym, ap, arith, unsigned_abs}
 use Rattle.std.specs.Prelude.{Ok, Bool, Option}
 use Rattle.std.specs.Option.{option_map}
-use Rattle.table_run.specs.Table.{Table as TableOf}
-use Rattle.table_run.specs.Ending.{no_unit_left, unbounded, wide_at}
-use Rattle.table_run.specs.Run.{run_from, direction}
-use Rattle.table_run.specs.Run.{turn, moved, unlimited}
-use Rattle.compact_table.specs.declared.columns.Entering.{Entering}
-use Rattle.compact_table.specs.Labels.{as_column}
-use Rattle.compact_table.specs.Tables.{as_table, turn_answer}
+use Rattle.simplex_run.specs.Table.{Table as TableOf}
+use Rattle.simplex_run.specs.Ending.{no_unit_left, unbounded, wide_at}
+use Rattle.simplex_run.specs.Run.{run_from, direction}
+use Rattle.simplex_run.specs.Run.{turn, moved, unlimited}
+use Rattle.fraction_tableau.specs.declared.columns.Entering.{Entering}
+use Rattle.fraction_tableau.specs.Labels.{as_column}
+use Rattle.fraction_tableau.specs.Tables.{as_table, turn_answer}
 use Rattle.simplex.proofs.RunSteps.{run_ends, run_is_out, run_moves, run_is_unbounded, run_misfits, spent_one, spent_none}
 use Rattle.simplex.proofs.run.run.Goals as goal
 

@@ -1,6 +1,6 @@
 use Rattle.std.proofs.Common.{◌≡◌, ◌-◌, ℕ, unsigned_abs}
-use Rattle.table_run.specs.Run.{run_from}
-use Rattle.compact_table.specs.Tables.{as_table, SameShape}
+use Rattle.simplex_run.specs.Run.{run_from}
+use Rattle.fraction_tableau.specs.Tables.{as_table, SameShape}
 use Rattle.simplex.proofs.run.run.Given as goal
 
 -- the run from here on is the run asked for

@@ -1,5 +1,5 @@
 use Rattle.std.proofs.Common.{◌∙◌, sym, ap, arith, length, map}
-use Rattle.compact_table.proofs.Filling.{slice_written}
+use Rattle.fraction_tableau.proofs.Filling.{slice_written}
 use Rattle.simplex.proofs.SolveSteps.{found_as}
 use Rattle.simplex.proofs.solver.optimum.Goals as goal
 

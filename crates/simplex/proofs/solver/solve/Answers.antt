@@ -1,9 +1,9 @@
 use Rattle.std.proofs.Common.{◌<◌, ◌-◌, ◌∙◌, sym, ap, subst, unsigned_abs}
 use Rattle.std.specs.Prelude.{Ok, Err}
 use Rattle.std.proofs.lemmas.Result.{err_from_is_err_and}
-use Rattle.table_run.specs.Choose.{bases_of}
-use Rattle.table_run.specs.Program.{LinearProgram}
-use Rattle.table_run.specs.Run.{run}
+use Rattle.simplex_run.specs.Choose.{bases_of}
+use Rattle.simplex_run.specs.Program.{LinearProgram}
+use Rattle.simplex_run.specs.Run.{run}
 use Rattle.simplex.specs.Answers.{IsAnswer, HoldsOf}
 use Rattle.simplex.specs.Stops.{stop_of}
 use Rattle.simplex.specs.Spaces.{program_given, IsFound, IsProgramGiven, IsRising}

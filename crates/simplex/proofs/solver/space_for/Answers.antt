@@ -1,8 +1,8 @@
 use Rattle.std.proofs.Common.{◌≡◌, ◌+◌, ◌*◌, ◌<◌, ◌∙◌, sym, ap, subst, arith, length, map, take, drop, List, ℕ}
 use Rattle.std.proofs.lemmas.List.{length-map, take-map, drop-map, drop-drop}
 use Rattle.exact_num.specs.Fraction.{IsNotBelowZero}
-use Rattle.compact_table.specs.Programs.{empty_program, with_row}
-use Rattle.compact_table.proofs.EntrySteps.{at-map}
+use Rattle.fraction_tableau.specs.Programs.{empty_program, with_row}
+use Rattle.fraction_tableau.proofs.EntrySteps.{at-map}
 use Rattle.simplex.specs.Programs.{as_program}
 use Rattle.simplex.specs.Spaces.{Workspace, Contents, given, program_given, IsProgramGiven}
 use Rattle.simplex.proofs.SolveSteps.{no_row, one_row_more, all_rows}

@@ -1,15 +1,15 @@
 use Rattle.std.proofs.Common.{◌≡◌, ◌+◌, ◌-◌, ◌<◌, ℕ, ◌∙◌, sym, ap, subst, arith, rules, length}
 use Rattle.std.specs.Prelude.{Option, Some}
 use Rattle.std.specs.Option.{option_map}
-use Rattle.table_run.specs.Ending.{no_unit_left, unbounded}
-use Rattle.equal_runs.specs.Lines.{LineTable}
-use Rattle.equal_runs.specs.WholeRunning.{whole_direction, whole_run_from}
-use Rattle.whole_solver.specs.declared.turn.Turn.{Turn}
-use Rattle.compact_table.specs.declared.columns.Entering.{Entering}
-use Rattle.compact_table.specs.Labels.{as_column}
-use Rattle.whole_solver.specs.Stored.{rows_in}
-use Rattle.whole_solver.specs.Tables.{as_whole, IsTurn}
-use Rattle.whole_solver.proofs.Pivoting.{rows_fit_in}
+use Rattle.simplex_run.specs.Ending.{no_unit_left, unbounded}
+use Rattle.run_equivalence.specs.Lines.{LineTable}
+use Rattle.run_equivalence.specs.WholeRunning.{whole_direction, whole_run_from}
+use Rattle.integer_tableau.specs.declared.turn.Turn.{Turn}
+use Rattle.fraction_tableau.specs.declared.columns.Entering.{Entering}
+use Rattle.fraction_tableau.specs.Labels.{as_column}
+use Rattle.integer_tableau.specs.Stored.{rows_in}
+use Rattle.integer_tableau.specs.Tables.{as_whole, IsTurn}
+use Rattle.integer_tableau.proofs.Pivoting.{rows_fit_in}
 use Rattle.simplex.proofs.RunSteps.{spent_one, spent_none}
 use Rattle.simplex.proofs.WholeSteps.{whole_ends, whole_out, whole_moves, whole_unlimited}
 use Rattle.simplex.proofs.whole_run.whole_run.Goals as goal

@@ -1,6 +1,6 @@
 use Rattle.std.proofs.Common.{◌≡◌, ◌-◌, ℕ}
-use Rattle.equal_runs.specs.WholeRunning.{whole_run_from}
-use Rattle.whole_solver.specs.Tables.{as_whole, IsWithin, SameShape}
+use Rattle.run_equivalence.specs.WholeRunning.{whole_run_from}
+use Rattle.integer_tableau.specs.Tables.{as_whole, IsWithin, SameShape}
 use Rattle.simplex.proofs.whole_run.whole_run.Given as goal
 
 -- the run from here on is the run asked for

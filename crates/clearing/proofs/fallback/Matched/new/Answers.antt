@@ -10,7 +10,7 @@ use Rattle.std.proofs.lemmas.List.Elements.{All-weaker}
 use Rattle.form.specs.Limits.{IsOrderWithin}
 use Rattle.form.specs.declared.limits.TheConstants.{MAX_QUANTITY}
 use Rattle.form.specs.declared.orders.Order.{Order}
-use Rattle.each_match.proofs.MatchLaws.{fills_small}
+use Rattle.bundle_match.proofs.MatchLaws.{fills_small}
 use Rattle.clearing.proofs.fallback.Matched.new.Goals as goal
 
 pub premium-surplus-requires-clause-fills : goal.premium-surplus-requires-clause-fills

@@ -1,8 +1,8 @@
 use Rattle.std.proofs.Common.{◌∙◌, sym}
 use Rattle.frac.specs.Range.{limit as largest}
-use Rattle.rounds.specs.Answers.{limits_of}
-use Rattle.rounds.specs.Run.{unjudged_run}
-use Rattle.rounds.proofs.Certified.{then_sums}
+use Rattle.constraint_generation.specs.Answers.{limits_of}
+use Rattle.constraint_generation.specs.Run.{unjudged_run}
+use Rattle.constraint_generation.proofs.Certified.{then_sums}
 use Rattle.clearing.specs.Outcome.{judged}
 use Rattle.clearing.proofs.room.ClearRoom.clear.Goals as goal
 

@@ -1,6 +1,6 @@
 use Rattle.std.proofs.Common.{sym, subst}
 use Rattle.frac.specs.Value.{fraction_of}
-use Rattle.rounds.specs.Answers.{IsJointAnswer, as_stopped}
+use Rattle.constraint_generation.specs.Answers.{IsJointAnswer, as_stopped}
 use Rattle.clearing.specs.Rooms.{IsMatchOf}
 use Rattle.clearing.proofs.room.ClearRoom.outcome_after.Goals as goal
 

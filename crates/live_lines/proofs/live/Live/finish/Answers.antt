@@ -1,6 +1,6 @@
 use Rattle.std.proofs.Common.{◌≡◌, [], refl, rules, subst, inl}
 use Rattle.std.specs.Io.KnownBytes.{Appends}
-use Rattle.port_io.specs.Writes.{AppendsFront}
+use Rattle.byte_streams.specs.Writes.{AppendsFront}
 use Rattle.live_lines.proofs.Fronts.{on_err}
 use Rattle.live_lines.proofs.Pieces.{last_begun, last_written}
 use Rattle.live_lines.proofs.live.Live.finish.Goals as goal

@@ -1,6 +1,6 @@
 use Rattle.std.proofs.Common.{refl, subst, ◌∙◌}
 use Rattle.std.specs.Io.KnownBytes.{Appends}
-use Rattle.port_io.specs.Writes.{AppendsFront}
+use Rattle.byte_streams.specs.Writes.{AppendsFront}
 use Rattle.live_lines.proofs.Fronts.{on_err, whole_front}
 use Rattle.live_lines.proofs.Pieces.{no_more, one_more, some_front, stopped_front, stopped_told, wrote_more}
 use Rattle.live_lines.proofs.Standing.{took_stands}

@@ -1,4 +1,4 @@
-use Rattle.std.proofs.Common.{◌≡◌, ℕ, List, sym, ap, ◌∙◌, subst}
+use Rattle.std.proofs.Common.{ℕ, List, sym, ap, ◌∙◌, subst}
 use Rattle.exchange_core.specs.ExchangeState.{ExchangeState}
 use Rattle.proposal_lines.specs.Proved.{AreProvedIn}
 use Rattle.proposal_lines.proofs.ToldAlone.{untold_said}

@@ -1,12 +1,12 @@
 use Rattle.std.proofs.Common.{◌<◌, ◌∙◌, sym, ap, subst, arith, length, unsigned_abs}
-use Rattle.table_run.specs.Places.{at}
-use Rattle.table_run.proofs.Listed.{listed_count, listed_at}
-use Rattle.table_run.specs.Run.{direction}
-use Rattle.compact_table.specs.Tables.{as_table, direction_entry}
-use Rattle.equal_runs.specs.WholeRunning.{whole_direction}
-use Rattle.compact_table.specs.Labels.{as_column}
-use Rattle.whole_solver.specs.Tables.{as_whole, direction_entry as whole_entry}
-use Rattle.compact_table.specs.SparseRows.{program_in}
+use Rattle.simplex_run.specs.Places.{at}
+use Rattle.simplex_run.proofs.Listed.{listed_count, listed_at}
+use Rattle.simplex_run.specs.Run.{direction}
+use Rattle.fraction_tableau.specs.Tables.{as_table, direction_entry}
+use Rattle.run_equivalence.specs.WholeRunning.{whole_direction}
+use Rattle.fraction_tableau.specs.Labels.{as_column}
+use Rattle.integer_tableau.specs.Tables.{as_whole, direction_entry as whole_entry}
+use Rattle.fraction_tableau.specs.SparseRows.{program_in}
 use Rattle.simplex.specs.declared.stage.Stage.{Stage}
 use Rattle.simplex.specs.Spaces.{Workspace, Contents, contents_of, direction_of, IsAt}
 use Rattle.simplex.proofs.SpaceSteps.{direction_is_there}

@@ -1,12 +1,12 @@
 use Rattle.std.proofs.Common.{◌<◌, ◌∙◌, sym, ap, subst, arith, length, unsigned_abs}
-use Rattle.table_run.specs.Places.{at}
-use Rattle.table_run.proofs.Listed.{listed_count, listed_at}
-use Rattle.compact_table.specs.Tables.{as_table}
-use Rattle.whole_solver.specs.Tables.{as_whole}
-use Rattle.compact_table.specs.SparseRows.{program_in}
+use Rattle.simplex_run.specs.Places.{at}
+use Rattle.simplex_run.proofs.Listed.{listed_count, listed_at}
+use Rattle.fraction_tableau.specs.Tables.{as_table}
+use Rattle.integer_tableau.specs.Tables.{as_whole}
+use Rattle.fraction_tableau.specs.SparseRows.{program_in}
 use Rattle.simplex.specs.declared.stage.Stage.{Stage}
-use Rattle.table_run.specs.Run.{price_of}
-use Rattle.equal_runs.specs.WholeRunning.{whole_price}
+use Rattle.simplex_run.specs.Run.{price_of}
+use Rattle.run_equivalence.specs.WholeRunning.{whole_price}
 use Rattle.simplex.specs.Spaces.{Workspace, Contents, reduced_of, IsAt}
 use Rattle.simplex.proofs.SpaceSteps.{optimum_is_there, whole_is_there}
 use Rattle.simplex.proofs.space.Space.reduced.Goals as goal

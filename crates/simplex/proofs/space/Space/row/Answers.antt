@@ -1,8 +1,8 @@
 use Rattle.std.proofs.Common.{◌≡◌, ◌<◌, ◌∙◌, sym, ap, subst, arith, length, map, unsigned_abs, vec_len}
-use Rattle.table_run.specs.Program.{LinearProgram}
-use Rattle.table_run.specs.Optimum.{IsProgram}
-use Rattle.compact_table.specs.Programs.{with_row}
-use Rattle.compact_table.specs.SparseRows.{program_in}
+use Rattle.simplex_run.specs.Program.{LinearProgram}
+use Rattle.simplex_run.specs.Optimum.{IsProgram}
+use Rattle.fraction_tableau.specs.Programs.{with_row}
+use Rattle.fraction_tableau.specs.SparseRows.{program_in}
 use Rattle.simplex.specs.Spaces.{Workspace, workspace, given, contents_of, IsAt}
 use Rattle.simplex.specs.declared.stage.Stage.{Stage}
 use Rattle.simplex.proofs.SpaceSteps.{program_is_given, row_is_program, room_kept, room_for_row, rows_listed}

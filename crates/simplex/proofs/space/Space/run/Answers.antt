@@ -1,10 +1,10 @@
 use Rattle.std.proofs.Common.{◌≡◌, ◌-◌, ◌∙◌, sym, ap, subst, refl, arith, length, unsigned_abs}
 use Rattle.std.specs.Prelude.{Ok, Err, Result}
-use Rattle.table_run.specs.Program.{LinearProgram}
-use Rattle.table_run.specs.Run.{run}
-use Rattle.table_run.specs.Units.{units_of}
-use Rattle.table_run.proofs.Optima.{ends_are_as_said}
-use Rattle.compact_table.specs.SparseRows.{program_in}
+use Rattle.simplex_run.specs.Program.{LinearProgram}
+use Rattle.simplex_run.specs.Run.{run}
+use Rattle.simplex_run.specs.Units.{units_of}
+use Rattle.simplex_run.proofs.Optima.{ends_are_as_said}
+use Rattle.fraction_tableau.specs.SparseRows.{program_in}
 use Rattle.simplex.specs.declared.stage.Stage.{Stage}
 use Rattle.simplex.specs.declared.stop.RunStop.{RunStop}
 use Rattle.simplex.specs.declared.stop.RunStop.TheVariants.{Budget}

@@ -1,7 +1,7 @@
 use Rattle.std.proofs.Common.{sym, ap, subst, arith}
 use Rattle.std.proofs.lemmas.List.{length-map}
-use Rattle.table_run.specs.Program.{LinearProgram}
-use Rattle.table_run.specs.Optimum.{IsProgram}
+use Rattle.simplex_run.specs.Program.{LinearProgram}
+use Rattle.simplex_run.specs.Optimum.{IsProgram}
 use Rattle.simplex.specs.Spaces.{Workspace, workspace, given}
 use Rattle.simplex.proofs.SpaceSteps.{empty_is_program, room_kept, rows_listed}
 use Rattle.simplex.proofs.space.Space.start.Goals as goal

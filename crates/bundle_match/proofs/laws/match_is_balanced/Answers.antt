@@ -1,0 +1,5 @@
+use Rattle.bundle_match.proofs.MatchLaws.{match_is_balanced}
+use Rattle.bundle_match.proofs.laws.match_is_balanced.Goals as goal
+
+pub returns : goal.returns
+returns c = match_is_balanced

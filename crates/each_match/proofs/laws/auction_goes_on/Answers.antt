@@ -1,5 +1,0 @@
-use Rattle.each_match.proofs.Turns.{auction_goes_on}
-use Rattle.each_match.proofs.laws.auction_goes_on.Goals as goal
-
-pub returns : goal.returns
-returns c = auction_goes_on

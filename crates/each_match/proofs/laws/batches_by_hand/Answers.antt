@@ -1,5 +1,0 @@
-use Rattle.each_match.proofs.WorkedBatches.{batches_by_hand}
-use Rattle.each_match.proofs.laws.batches_by_hand.Goals as goal
-
-pub returns : goal.returns
-returns c = batches_by_hand

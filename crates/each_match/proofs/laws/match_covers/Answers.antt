@@ -1,5 +1,0 @@
-use Rattle.each_match.proofs.MatchLaws.{match_covers}
-use Rattle.each_match.proofs.laws.match_covers.Goals as goal
-
-pub returns : goal.returns
-returns c = match_covers

@@ -1,5 +1,0 @@
-use Rattle.each_match.proofs.MatchLaws.{match_is_balanced}
-use Rattle.each_match.proofs.laws.match_is_balanced.Goals as goal
-
-pub returns : goal.returns
-returns c = match_is_balanced

@@ -1,5 +1,0 @@
-use Rattle.each_match.proofs.Fills.{match_is_the_auction}
-use Rattle.each_match.proofs.laws.match_is_the_auction.Goals as goal
-
-pub returns : goal.returns
-returns c = match_is_the_auction

@@ -1,5 +1,0 @@
-use Rattle.each_match.proofs.MatchLaws.{match_is_within}
-use Rattle.each_match.proofs.laws.match_is_within.Goals as goal
-
-pub returns : goal.returns
-returns c = match_is_within

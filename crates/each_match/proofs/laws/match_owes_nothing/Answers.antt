@@ -1,5 +1,0 @@
-use Rattle.each_match.proofs.MatchLaws.{match_owes_nothing}
-use Rattle.each_match.proofs.laws.match_owes_nothing.Goals as goal
-
-pub returns : goal.returns
-returns c = match_owes_nothing

@@ -1,5 +1,0 @@
-use Rattle.each_match.proofs.Options.{AreTradesSoFar}
-use Rattle.each_match.proofs.matches.trades.Given as goal
-
-abbrev pub invariant-loop-place : goal.invariant-loop-place
-invariant-loop-place l = AreTradesSoFar l.orders l.place l.trades.items

@@ -1,8 +1,0 @@
-use Rattle.std.proofs.Common.{◌≡◌, ◌++◌, drop}
-use Rattle.form.specs.Payoff.{bundle_of}
-use Rattle.each_match.specs.Queue.{offers_from}
-use Rattle.each_match.proofs.queues.offers.Given as goal
-
-abbrev pub invariant-loop-place : goal.invariant-loop-place
-invariant-loop-place l =
-    l.offers.items ++ offers_from l.side (bundle_of l.other) l.place (drop l.place l.orders) ≡ offers_from l.side (bundle_of l.other) 0 l.orders

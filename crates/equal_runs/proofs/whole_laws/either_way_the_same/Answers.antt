@@ -1,5 +1,0 @@
-use Rattle.equal_runs.proofs.RunSteps.{either_way_the_same}
-use Rattle.equal_runs.proofs.whole_laws.either_way_the_same.Goals as goal
-
-pub returns : goal.returns
-returns c = either_way_the_same

@@ -1,5 +1,0 @@
-use Rattle.equal_runs.proofs.RunSteps.{no_step_misfits}
-use Rattle.equal_runs.proofs.whole_laws.no_step_misfits.Goals as goal
-
-pub returns : goal.returns
-returns c = no_step_misfits

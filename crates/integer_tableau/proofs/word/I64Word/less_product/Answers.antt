@@ -1,0 +1,24 @@
+use Rattle.std.proofs.Common.{rules, ◌≡◌, ◌-ℤ◌, ◌*ℤ◌, ap, FitsSigned, w64}
+use Rattle.std.proofs.lemmas.Int.{to_z-of_z}
+use Rattle.integer_tableau.proofs.Numbers.{held_64}
+use Rattle.integer_tableau.proofs.Words.{difference_within}
+use Rattle.integer_tableau.proofs.word.I64Word.less_product.Goals as goal
+
+pub overflow_sub-result : goal.overflow_sub-result
+overflow_sub-result c =
+    let fs : FitsSigned w64 c.args.self = search rules in
+    let ff : FitsSigned w64 c.args.f = search rules in
+    let fq : FitsSigned w64 c.args.q = search rules in
+    let fp : FitsSigned w64 c.product-product.result = search rules in
+    let is : c.product-product.result ≡ c.args.f *ℤ c.args.q = simp to_z-of_z at c.product-product.ensures in
+    simp to_z-of_z (held_64 (c.args.self -ℤ c.product-product.result) (difference_within _ c.args.self c.args.f c.args.q c.product-product.result is c.requires))
+
+pub returns : goal.returns
+returns c =
+    let fs : FitsSigned w64 c.args.self = search rules in
+    let ff : FitsSigned w64 c.args.f = search rules in
+    let fq : FitsSigned w64 c.args.q = search rules in
+    let fp : FitsSigned w64 c.product-product.result = search rules in
+    let is : c.product-product.result ≡ c.args.f *ℤ c.args.q = simp to_z-of_z at c.product-product.ensures in
+    let fd : FitsSigned w64 (c.args.self -ℤ c.product-product.result) = held_64 (c.args.self -ℤ c.product-product.result) (difference_within _ c.args.self c.args.f c.args.q c.product-product.result is c.requires) in
+    simp to_z-of_z (ap (λ z. c.args.self -ℤ z) is)

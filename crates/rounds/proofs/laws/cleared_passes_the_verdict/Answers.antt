@@ -1,5 +1,0 @@
-use Rattle.rounds.proofs.JointRuns.{cleared_passes_the_verdict}
-use Rattle.rounds.proofs.laws.cleared_passes_the_verdict.Goals as goal
-
-pub returns : goal.returns
-returns c = cleared_passes_the_verdict

@@ -1,5 +1,0 @@
-use Rattle.rounds.proofs.JointRuns.{no_run_is_without_end}
-use Rattle.rounds.proofs.laws.no_run_is_without_end.Goals as goal
-
-pub returns : goal.returns
-returns c = no_run_is_without_end

@@ -1,5 +1,0 @@
-use Rattle.rounds.proofs.EnoughUnits.{units_suffice_on_line}
-use Rattle.rounds.proofs.laws.units_suffice_on_line.Goals as goal
-
-pub returns : goal.returns
-returns c = units_suffice_on_line

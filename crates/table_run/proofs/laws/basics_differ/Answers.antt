@@ -1,5 +1,0 @@
-use Rattle.table_run.proofs.Wider.{basics_differ}
-use Rattle.table_run.proofs.laws.basics_differ.Goals as goal
-
-pub returns : goal.returns
-returns c = basics_differ

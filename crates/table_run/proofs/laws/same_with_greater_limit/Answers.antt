@@ -1,5 +1,0 @@
-use Rattle.table_run.proofs.Wider.{same_with_greater_limit}
-use Rattle.table_run.proofs.laws.same_with_greater_limit.Goals as goal
-
-pub returns : goal.returns
-returns c = same_with_greater_limit

@@ -1,5 +1,0 @@
-use Rattle.table_run.proofs.Counted.{units_are_counted}
-use Rattle.table_run.proofs.laws.units_are_counted.Goals as goal
-
-pub returns : goal.returns
-returns c = units_are_counted

@@ -1,5 +1,0 @@
-use Rattle.table_run.proofs.Suffice.{units_suffice}
-use Rattle.table_run.proofs.laws.units_suffice.Goals as goal
-
-pub returns : goal.returns
-returns c = units_suffice

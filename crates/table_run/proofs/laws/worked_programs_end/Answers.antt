@@ -1,5 +1,0 @@
-use Rattle.table_run.proofs.WorkedPrograms.{worked_programs_end}
-use Rattle.table_run.proofs.laws.worked_programs_end.Goals as goal
-
-pub returns : goal.returns
-returns c = worked_programs_end

@@ -1,8 +1,0 @@
-use Rattle.std.proofs.Common.{drop, map}
-use Rattle.equal_runs.specs.Lines.{least_multiple}
-use Rattle.whole_solver.specs.Within.{HasMultiple}
-use Rattle.whole_solver.proofs.fraction.least_multiple.Given as goal
-
--- that of the entries from this one on
-abbrev pub invariant-loop-j : goal.invariant-loop-j
-invariant-loop-j g l = HasMultiple (least_multiple (map g.N.Exact.fraction (drop l.j l.entries))) l.found
