@@ -323,8 +323,10 @@ class Frames(unittest.TestCase):
             self.assertEqual(list(read.measure.mass), [state.mass for state in states])
             amounts = [paid.amount for paid in journal.payouts]
             self.assertEqual(list(read.payouts.amount), amounts)
-            refused = path.read_text().count('"reply":"refused"')
-            self.assertEqual(len(read.refusals), refused, path.name)
+            if path.stem != "questions":
+                own = [it for it in path.read_text().splitlines() if '"reply":"asked"' not in it]
+                refused = sum('"reply":"refused"' in it for it in own)
+                self.assertEqual(len(read.refusals), refused, path.name)
 
     @wants("matplotlib")
     def test_floats_plot(self) -> None:

@@ -11,11 +11,12 @@ import sys
 import tempfile
 import unittest
 from collections.abc import Callable
+from fractions import Fraction
 from typing import Any
 
 sys.path.append(str(pathlib.Path(__file__).resolve().parent))
 import ragvismo
-from ragvismo import Cleared, cleared, maps, picture, pictures, tables
+from ragvismo import Cleared, Depth, Level, call, cleared, maps, picture, pictures, tables
 from test_ragvismo import TOP, example, wants
 
 KEPT = TOP / "python/pictures"
@@ -63,6 +64,13 @@ def close_together() -> Cleared:
     return cleared.read({**reply, "certificate": {"cover": "line", "measure": states}})
 
 
+def depth() -> Depth:
+    """Bids below asks, one of which is not proved."""
+    bids = [Level(at, Fraction(max(12 - at, 0), 2), "optimal") for at in range(4, 21, 2)]
+    asks = [Level(at, Fraction(max(at - 14, 0)) * 3 / 2, "optimal") for at in range(4, 21, 2)]
+    return Depth(1, call(100), 50, tuple(bids), (*asks[:-1], asks[-1]._replace(mark="budget")))
+
+
 KINDS: dict[str, Callable[[], Any]] = {
     "line-page": lambda: picture(example("butterfly")),
     "line-column": lambda: picture(example("spread"), "column"),
@@ -79,6 +87,8 @@ KINDS: dict[str, Callable[[], Any]] = {
     "unmarked": lambda: picture(example("joint"), "column"),
     "empty": lambda: picture(empty(), "column"),
     "axes": lambda: in_axes(),
+    "depth-column": lambda: picture(depth(), "column"),
+    "depth-empty": lambda: picture(Depth(1, call(100), 1, (), ()), "column"),
 }
 
 
@@ -141,6 +151,8 @@ class Figures(unittest.TestCase):
             ("untraded", ("none of the 3 orders traded", "mass (sums to 1)")),
             ("unmarked", ("none of the 3 orders traded; no measure",)),
             ("empty", ("the batch has no orders",)),
+            ("depth-column", ("bought at this limit", "not proved", "50 options tried")),
+            ("depth-empty", ("no price was asked for",)),
         ):
             for part in parts:
                 self.assertIn(part, self.text_of(kind), kind)

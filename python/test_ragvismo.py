@@ -41,6 +41,19 @@ from ragvismo.orders import Side
 TOP = pathlib.Path(__file__).resolve().parent.parent
 PYTHON = "/usr/bin/python3"
 JOURNALS = sorted((TOP / "examples").glob("*.replies"))
+# Runs the cells of a notebook in turn, and prints what each tells, its last value at the end.
+CELLS = """
+import ast, contextlib, io, json, sys
+told, names = [], {"__name__": "__main__"}
+for source in json.load(sys.stdin):
+    tree, text = ast.parse(source), io.StringIO()
+    last = tree.body.pop() if isinstance(tree.body[-1], ast.Expr) else None
+    with contextlib.redirect_stdout(text):
+        exec(compile(tree, "cell", "exec"), names)
+        value = eval(compile(ast.Expression(last.value), "cell", "eval"), names) if last else None
+    told.append(text.getvalue() + ("" if value is None else repr(value)))
+print(json.dumps(told))
+"""
 Tested = TypeVar("Tested", bound="Callable[..., Any]")
 
 
@@ -282,6 +295,27 @@ class Clearing(unittest.TestCase):
         self.assertEqual((found.surplus, found.bound), proposed[2:])
         found.certificate.check()
 
+    @wants("pandas")
+    def test_how_deep_a_market_is(self) -> None:
+        """The fills of a further order follow its limit, and nothing is placed."""
+        with Exchange() as exchange:
+            exchange.open(account=1)
+            exchange.market(market=1)
+            for price, quantity in ((4, 3), (6, 2)):
+                exchange.sell(account=1, market=1, option=put(12), price=price, quantity=quantity)
+            about: dict[str, Any] = {"market": 1, "option": put(12), "quantity": 9}
+            found = exchange.depth(prices=[7, 5, 3, 5], **about)
+            self.assertEqual(
+                [(it.price, it.fill, it.mark) for it in found.asks],
+                [(3, 0, "optimal"), (5, 3, "optimal"), (7, 5, "optimal")],
+            )
+            self.assertEqual([it.fill for it in found.bids], [0, 0, 0])
+            self.assertEqual(len(exchange.book(market=1).orders), 2)
+            self.assertEqual(exchange.depth(prices=[], **about).asks, ())
+        frame = found.to_frame(floats=True)
+        self.assertEqual(list(frame.columns), ["side", "price", "fill", "mark"])
+        self.assertEqual(frame.fill[frame.side == "buy"].tolist(), [0.0, 3.0, 5.0])
+
     def test_a_closed_market_of_a_live_exchange(self) -> None:
         with Exchange() as exchange:
             self.live(exchange)
@@ -492,29 +526,37 @@ class Clearing(unittest.TestCase):
                     raised = clear(Batch([*book.orders, more])).surplus > base
                     self.assertEqual(raised, step == (1 if side == "buy" else -1), (side, step))
 
-    def test_the_readme_and_the_tour(self) -> None:
+    def printed(self, source: str, given: str = "") -> str:
+        environment = {
+            **os.environ,
+            "PYTHONPATH": str(TOP / "python"),
+            "MPLBACKEND": "Agg",
+            "PYTHONDONTWRITEBYTECODE": "1",
+        }
+        command = [PYTHON, "-c", source]
+        ran = subprocess.run(command, capture_output=True, env=environment, input=given, text=True)
+        self.assertEqual(ran.returncode, 0, ran.stderr)
+        return ran.stdout
+
+    def test_the_readme(self) -> None:
         text = (TOP / "python/README.md").read_text()
         shown = re.search(r"```python\n(.*?)```\n\n```\n(.*?)```", text, re.S)
         assert shown
         session, printed = shown.groups()
-        tour = json.loads((TOP / "python/tour.ipynb").read_text())
-        cells = ["".join(it["source"]) for it in tour["cells"] if it["cell_type"] == "code"]
         self.assertEqual(len(session.splitlines()), 10)
-        for given, said in ((session, printed), ("\n\n".join(cells), None)):
-            if said is None and not all(
-                map(importlib.util.find_spec, ("pandas", "matplotlib", "scipy"))
-            ):
-                self.skipTest("a package is missing; tools/setup installs it")
-            environment = {
-                **os.environ,
-                "PYTHONPATH": str(TOP / "python"),
-                "MPLBACKEND": "Agg",
-                "PYTHONDONTWRITEBYTECODE": "1",
-            }
-            command = [PYTHON, "-c", given]
-            ran = subprocess.run(command, capture_output=True, env=environment, text=True)
-            self.assertEqual(ran.returncode, 0, ran.stderr)
-            self.assertIn(said or "", ran.stdout)
+        self.assertIn(printed, self.printed(session))
+
+    def test_the_tour_shows_what_its_cells_tell(self) -> None:
+        if not all(map(importlib.util.find_spec, ("pandas", "matplotlib", "scipy"))):
+            self.skipTest("a package is missing; tools/setup installs it")
+        tour = json.loads((TOP / "python/tour.ipynb").read_text())
+        cells = [it for it in tour["cells"] if it["cell_type"] == "code"]
+        sources = ["".join(it["source"]) for it in cells]
+        told = json.loads(self.printed(CELLS, json.dumps(sources)))
+        for source, cell, text in zip(sources, cells, told, strict=True):
+            outputs = cell["outputs"]
+            shown = ["".join(it.get("text") or it["data"]["text/plain"]) for it in outputs]
+            self.assertEqual("\n".join(it.rstrip() for it in shown), text.rstrip(), source)
 
 
 if __name__ == "__main__":

@@ -84,6 +84,7 @@ class Rechecks(unittest.TestCase):
             (Proposal((one, two, Fraction(0)), Fraction(0), "line", given.measure), "Cover"),
             (Proposal(given.fills, Fraction(1), "line", given.measure), "Cover"),
             (Proposal(given.fills, Fraction(0), "cells", given.measure), "BatchShape"),
+            (Proposal(given.fills, Fraction(0), "match", given.measure), "Cover"),
             (Proposal(given.fills, Fraction(0), "line", tuple(rest)), "Measure"),
             (
                 Proposal(
@@ -96,6 +97,9 @@ class Rechecks(unittest.TestCase):
             ),
         ):
             self.assertEqual(self.failed(batch, other), condition, other)
+        nothing = Proposal((Fraction(0),) * 3, Fraction(0), "match", given.measure)
+        nothing.check(batch)
+        self.assertEqual(nothing.surplus(batch), 0)
 
     def test_faults_of_trees(self) -> None:
         it = example("demo", 2)

@@ -47,7 +47,8 @@ from typing import Any, NamedTuple
 import common
 import books
 from common import BadInput, Given, Report, Table
-from ragvismo import Batch, Cleared, Exchange, Order, clear, solvers
+from ragvismo import Batch, Cleared, Order, clear, solvers
+from ragvismo.cleared import Cover
 
 WHOLE, OWN_BUDGET = 24, 2_000
 # The orders of a batch on so many underlyings.
@@ -140,21 +141,17 @@ def in_parts(batch: Batch, share: Callable[[Order], Hashable], given: Given) -> 
     ]
 
 
-def bound_of(batch: Batch, joint: Cleared, given: Given) -> Fraction:
-    """The bound of a batch: of its line, or where nothing better than the match was proposed, so
-    that the line has none, of what was proposed."""
-    if joint.bound is not None:
-        return joint.bound
-    with Exchange(given.program) as exchange:
-        exchange.open(account=1)
-        exchange.deposit(account=1, amount=common.FUNDS)
-        exchange.market(market=1, underlyings=batch.underlyings)
-        for order in batch.orders:
-            exchange.place(order, market=1)
-        proposed = exchange.propose(market=1)
-    if proposed is None:
+def bound_of(joint: Cleared) -> float:
+    """The bound of a line, which the exchange's solver proposes of every batch."""
+    if joint.bound is None:
         raise BadInput("the exchange's solver proposes nothing")
-    return proposed.bound
+    return float(joint.bound)
+
+
+def nodes_of(cover: Cover) -> int:
+    """How many nodes a cover has: a tree, or one over classes; a match has none."""
+    nodes = cover["cells"] if isinstance(cover, dict) else cover
+    return len(nodes) if isinstance(nodes, list) else 0
 
 
 def together(batch: Batch, found: Sequence[Cleared]) -> Market:
@@ -175,9 +172,9 @@ def one(case: Case, number: int, given: Given) -> tuple[Found | None, list[Clear
         market(batch, joint.surplus, joint.fills),
         {name: together(batch, it) for name, it in parted.items()},
         joint.mark,
-        float(bound_of(batch, joint, given)),
+        bound_of(joint),
         joint.units,
-        len(joint.certificate.cover),
+        nodes_of(joint.certificate.cover),
         None if other is None else float(other),
     )
     return found, [joint, *(line for it in parted.values() for line in it)]

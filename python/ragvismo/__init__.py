@@ -10,7 +10,9 @@ from ragvismo.clearing import clear, clear_many, commands_of, double_auction
 from ragvismo.exchange import (
     Balance,
     Book,
+    Depth,
     Exchange,
+    Level,
     Margin,
     Need,
     Payout,
@@ -63,7 +65,7 @@ from ragvismo.version import __version__
 __all__ = ["__version__", "solvers"]
 __all__ += ["Certificate", "Cleared", "State", "clear", "clear_many", "commands_of"]
 __all__ += ["Balance", "Book", "Exchange", "Margin", "Need", "Payout", "Position"]
-__all__ += ["Price", "Proposed", "Trial"]
+__all__ += ["Depth", "Level", "Price", "Proposed", "Trial"]
 __all__ += ["BadChain", "BadFrame", "BadJournal", "CheckFailed", "Ended", "NoCover", "NoMeasure"]
 __all__ += ["NoProgram", "RagvismoError", "Refused", "Settled", "TimedOut", "Unproved"]
 __all__ += ["Chain", "Distribution", "JournalFrames", "PriceBounds", "Proposal", "import_chain"]

@@ -35,10 +35,10 @@ def clear(
     Orders are numbered from 1.
 
     `joint` lets options of all strikes, kinds and weights cover one another, within a budget of 1
-    to 20,000 units. Where that run gives up, the clear takes what a `solver` proposes, if it
-    leaves more than the match of equal bundles; the mark is then `bounded`. `exchange` is the
-    program's own solver, a function is given the batch and answers with a `Proposal` or None
-    (`solvers.highs` is one). A solver is asked of every batch, before the run.
+    to 20,000 units. Where that run gives up, the clear takes what a `solver` proposes, or the match
+    of equal bundles where that leaves as much; the mark is then `bounded`, by the proposed measure.
+    `exchange` is the program's own solver, a function is given the batch and answers with a
+    `Proposal` or None (`solvers.highs` is one). A solver is asked of every batch, before the run.
 
     `each` matches the orders of equal bundles alone, by a double auction: the exchange does so
     where its budget of one unit is too small for the joint run. Where that run ends within one

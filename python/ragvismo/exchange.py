@@ -8,17 +8,20 @@ import os
 import select
 import subprocess
 import tempfile
-from collections.abc import Callable, Iterable, Sequence
+from collections.abc import Callable, Iterable, Iterator, Sequence
 from dataclasses import dataclass
 from fractions import Fraction
 from types import TracebackType
-from typing import Any, Literal, NamedTuple, SupportsIndex
+from typing import TYPE_CHECKING, Any, Literal, NamedTuple, SupportsIndex
 
 from ragvismo import cleared, program
 from ragvismo.cleared import Cleared
 from ragvismo.faults import Ended, Refused
 from ragvismo.orders import Batch, Leg, Option, Order, PlacedOrder, Side, buy, bundle, sell
 from ragvismo.proposals import Proposal
+
+if TYPE_CHECKING:
+    import pandas
 
 BUDGET = 20_000
 MARGIN_BUDGET = 2_000
@@ -68,6 +71,40 @@ class Trial(NamedTuple):
     fill: Fraction
     surplus: Fraction
     mark: Literal["optimal", "wide", "budget"]
+
+
+class Level(NamedTuple):
+    """A price, in ticks, and how much of an order would be filled at it."""
+
+    price: int
+    fill: Fraction
+    mark: Literal["optimal", "wide", "budget"]
+
+
+@dataclass(frozen=True)
+class Depth:
+    """How deep a market is for an option: what would be filled of a further sell (`bids`) and of a
+    further buy (`asks`) of `quantity` options, at each price that was asked for.
+
+    Where the marks are optimal, a buy's fill does not fall and a sell's does not rise with the
+    price; between two prices it is between their fills.
+    """
+
+    market: int
+    option: Option
+    quantity: int
+    bids: tuple[Level, ...]
+    asks: tuple[Level, ...]
+
+    def to_frame(self, floats: bool = False) -> "pandas.DataFrame":
+        """The levels: `side` (of the further order), `price`, `fill`, `mark`."""
+        from ragvismo.frames import frame_of
+
+        levels = [("sell", it) for it in self.bids] + [("buy", it) for it in self.asks]
+        columns: dict[str, list[Any]] = {"side": [side for side, _ in levels]}
+        for name in Level._fields:
+            columns[name] = [getattr(it, name) for _, it in levels]
+        return frame_of(columns, floats)
 
 
 class Margin(NamedTuple):
@@ -374,6 +411,27 @@ class Exchange:
         nothing. No order is placed."""
         reply = self.ask(_line("try", market, budget, side, price, quantity, *_about(option)))
         return Trial(Fraction(reply["fill"]), Fraction(reply["surplus"]), reply["mark"])
+
+    def depth(
+        self,
+        *,
+        market: int,
+        option: Option,
+        prices: Iterable[int],
+        quantity: int = 1,
+        budget: int = BUDGET,
+    ) -> Depth:
+        """How deep a market is for an option: a `try_order` for each price and side. No order is
+        placed. `picture` draws it."""
+        listed = sorted({int(operator.index(it)) for it in prices})
+        about: dict[str, Any] = {"market": market, "option": option, "quantity": quantity}
+
+        def levels(side: Side) -> Iterator[Level]:
+            for price in listed:
+                tried = self.try_order(side=side, price=price, budget=budget, **about)
+                yield Level(price, tried.fill, tried.mark)
+
+        return Depth(bids=tuple(levels("sell")), asks=tuple(levels("buy")), **about)
 
     def margin(self, *, account: int, market: int, budget: int = MARGIN_BUDGET) -> Margin:
         """What the positions of an account in a market may owe, within a budget of 1 to 20,000

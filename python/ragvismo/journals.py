@@ -174,9 +174,11 @@ def lines(path: Path) -> Iterator[str]:
 
 def take_all(path: Path, take: Callable[[dict[str, Any], str], None]) -> None:
     """Takes the replies of a journal one by one, each with its line. Replies of messages are taken
-    out of their answers, each once; what is told to questions is left out. Raises `BadJournal`
-    where the file cannot be read, or a line is no reply, or its number does not follow.
+    out of their answers, each once; what is told to questions is left out: of replies with one
+    number the last is the line's. Raises `BadJournal` where the file cannot be read, or a line is
+    no reply, or its number does not follow.
     """
+    held: tuple[dict[str, Any], str] | None = None
     place, last, decode = 0, 0, json.JSONDecoder().raw_decode
     try:
         for place, text in enumerate(lines(path), 1):
@@ -188,11 +190,15 @@ def take_all(path: Path, take: Callable[[dict[str, Any], str], None]) -> None:
                 continue
             if reply is not answer and reply["line"] <= last:
                 continue
-            if reply["line"] <= last:
+            if reply["line"] < max(last, 1):
                 told = f"line {place} of {path} has the number {reply['line']} after {last}"
                 raise BadJournal(f"{told}: it is no journal of one run")
+            if held and reply["line"] > last:
+                take(*held)
             last = reply["line"]
-            take(reply, text[:end] if reply is answer else "")
+            held = (reply, text[:end] if reply is answer else "")
+        if held:
+            take(*held)
     except UnicodeDecodeError:
         raise BadJournal(f"{path} is no journal: it is not ASCII") from None
     except FAULTS:

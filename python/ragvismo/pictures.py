@@ -1,9 +1,9 @@
-"""Pictures of a cleared batch, for a page or a column of a paper.
+"""Pictures of a cleared batch, or of a depth, for a page or a column of a paper.
 
 On one underlying: what the house keeps of the premium after the net payoff, over the price at
 settlement, with the surplus below it, the bound where there is one, and the measure. On two: the
 same as a map over both prices, with the states of the measure by number. On more the states alone,
-and always below it the orders that traded.
+and always below it the orders that traded. Of a depth: what would be filled, over the limit.
 """
 
 from __future__ import annotations
@@ -13,8 +13,9 @@ from collections.abc import Sequence
 from fractions import Fraction
 from typing import Any, Literal
 
-from ragvismo import maps, tables
+from ragvismo import depths, maps, tables
 from ragvismo.cleared import Cleared
+from ragvismo.exchange import Depth
 from ragvismo.maps import Limits
 from ragvismo.program import Path
 from ragvismo.tables import Layout, brief, traded
@@ -34,20 +35,20 @@ LAYOUTS: dict[Size, Layout] = {"page": Layout(7.0, 8, 14), "column": Layout(3.4,
 
 
 def picture(
-    cleared: Cleared,
+    of: Cleared | Depth,
     size: Size = "page",
     *,
     axes: Any = None,
     title: str | None = None,
     limits: Limits | None = None,
 ) -> Any:
-    """Draws a batch as a figure of matplotlib, 7 inches wide for a page or 3.4 for a column. `save`
-    writes it, with its text as text, into a file.
+    """Draws a batch, or a depth, as a figure of matplotlib, 7 inches wide for a page or 3.4 for a
+    column. `save` writes it, with its text as text, into a file.
 
-    With `axes` only the curve (one underlying) or the map (two) is drawn, into these, without a
-    legend, and their figure is answered; more underlyings have neither, which is a ValueError.
-    `title` takes the place of what is told of the batch, nothing where it is empty. `limits` are
-    the least and the greatest price that are shown, in ticks, of each underlying.
+    With `axes` only the curve (of one underlying, or of a depth) or the map (of two) is drawn, into
+    these, without a legend, and their figure is answered; more underlyings have neither, which is a
+    ValueError. `title` takes the place of what is told, nothing where it is empty. `limits` are the
+    least and the greatest price that are shown, in ticks, of each underlying.
     """
     import matplotlib
     from matplotlib import pyplot
@@ -57,22 +58,26 @@ def picture(
         raise ValueError(f"the limits {limits} do not rise")
     with matplotlib.rc_context({**LOOK, "font.size": layout.letters}):
         if axes is not None:
-            return _into(axes, cleared, layout, title, limits)
-        draw = {1: _draw_line, 2: _draw_map}.get(cleared.underlyings, _draw_states)
-        figure = draw(cleared, layout, title, limits)
+            return _into(axes, of, layout, title, limits)
+        if isinstance(of, Depth):
+            figure = depths.figure(of, layout, title, limits)
+        else:
+            draw = {1: _draw_line, 2: _draw_map}.get(of.underlyings, _draw_states)
+            figure = draw(of, layout, title, limits)
     pyplot.close(figure)  # else a notebook shows it twice, and pyplot keeps it
     return figure
 
 
 def save(
-    cleared: Cleared,
+    of: Cleared | Depth,
     path: Path,
     size: Size = "page",
     *,
     title: str | None = None,
     limits: Limits | None = None,
 ) -> None:
-    """Draws a batch into a file: svg or pdf with its text as text, or png at 300 dots an inch.
+    """Draws a batch or a depth into a file: svg or pdf with its text as text, or png at 300 dots an
+    inch.
 
     Raises ValueError at another ending, and OSError where the file cannot be written."""
     import matplotlib
@@ -80,7 +85,7 @@ def save(
     ending = pathlib.Path(path).suffix
     if ending not in ENDINGS:
         raise ValueError(f"{path} does not end with one of {', '.join(ENDINGS)}")
-    figure = picture(cleared, size, title=title, limits=limits)
+    figure = picture(of, size, title=title, limits=limits)
     with matplotlib.rc_context({**LOOK, "font.size": LAYOUTS[size].letters}):
         about = {".svg": {"Date": None}, ".pdf": {"CreationDate": None}}.get(ending)
         figure.savefig(path, metadata=about)
@@ -101,24 +106,30 @@ def title_of(cleared: Cleared) -> str:
 
 
 def _into(
-    axes: Any, cleared: Cleared, layout: Layout, title: str | None, limits: Limits | None
+    axes: Any, of: Cleared | Depth, layout: Layout, title: str | None, limits: Limits | None
 ) -> Any:
-    figure = axes.figure.figure
+    if isinstance(of, Depth):
+        depths.draw(axes, of, limits)
+    else:
+        _batch_into(axes, of, layout, limits)
+    if title:
+        axes.set_title(title)
+    return axes.figure.figure
+
+
+def _batch_into(axes: Any, cleared: Cleared, layout: Layout, limits: Limits | None) -> None:
     if cleared.underlyings == 1:
         _show_kept(axes, cleared, *(limits or _ends(cleared)))
         axes.set(xlabel="price at settlement (ticks)")
     elif cleared.underlyings == 2:
         maps.draw(axes, cleared, limits)
-        figure.draw_without_rendering()
+        axes.figure.figure.draw_without_rendering()
         maps.number_states(axes, cleared, layout)
     else:
         raise ValueError("a batch on more than two underlyings has no curve and no map")
     if not traded(cleared):
         told = {"ha": "center", "va": "top", "transform": axes.transAxes}
         axes.text(0.5, 0.96, tables.of_orders(cleared).below, **told)
-    if title:
-        axes.set_title(title)
-    return figure
 
 
 def _parts(cleared: Cleared, layout: Layout, heights: Sequence[float], title: str | None) -> Any:

@@ -1,5 +1,6 @@
 """Batches of random orders, as command lines: tools/bench and tools/basket make their inputs with
 these."""
+import math
 from random import Random
 
 
@@ -68,4 +69,70 @@ def wild(draw: Random, orders: int, underlyings: int) -> list[str]:
         side, account = draw.choice(("buy", "sell")), draw.randint(1, 40)
         quantity, form = round(10 ** draw.uniform(0, 6)), ",".join(map(str, weights))
         lines.append(f"{side},{account},1,{kind},{strike},{price},{quantity},{form}")
+    return lines
+
+
+def paths_of(draw: Random, forwards: list[int]) -> list[list[float]]:
+    """Settlements in half a year, lognormal about the forwards, with one factor in common."""
+    sizes = [draw.uniform(0.13, 0.32) for _ in forwards]
+    paths = []
+    for _ in range(1000):
+        common = draw.gauss(0, 0.7)
+        moves = [size * (common + draw.gauss(0, 0.7)) - size * size / 2 for size in sizes]
+        paths.append([forward * math.exp(move) for forward, move in zip(forwards, moves)])
+    return paths
+
+
+def asked_weights(draw: Random, forwards: list[int], index: list[int]) -> list[int]:
+    """Weights as traders ask for them: one name (half of all), a pair of about equal worth, the
+    index, a basket of some of its names, or others."""
+    names = range(len(forwards))
+    weights = [0] * len(forwards)
+    kind = draw.choices(("name", "pair", "index", "basket", "others"), (50, 25, 10, 10, 5))[0]
+    if kind == "name":
+        weights[draw.choice(names)] = 1
+    elif kind == "pair":
+        dear, cheap = sorted(draw.sample(names, 2), key=lambda it: -forwards[it])
+        weights[dear], weights[cheap] = 1, -max(1, round(forwards[dear] / forwards[cheap]))
+    elif kind == "others":
+        for it in draw.sample(names, draw.randint(2, min(len(forwards), 4))):
+            weights[it] = draw.choice((-2, -1, 1, 2, 3))
+    else:
+        few = draw.randint(2, max(2, len(forwards) // 2))
+        for it in names if kind == "index" else draw.sample(names, few):
+            weights[it] = index[it]
+    return weights
+
+
+def round_strike(draw: Random, size: float, near: float, spread: float) -> int:
+    """A round strike: a multiple of 1, 2 or 5 with zeros, at most a fortieth of the size."""
+    unit: int = 10 ** math.floor(math.log10(size / 40)) if size >= 40 else 1
+    step = max(it for it in (unit, 2 * unit, 5 * unit) if it <= max(size / 40, unit))
+    strike: int = round(draw.gauss(near, 0.6 * spread) / step) * step
+    return strike
+
+
+def realistic(draw: Random, orders: int, underlyings: int, noise: float) -> list[str]:
+    """Orders on two or more underlyings as traders send them: single names, pairs, an index and
+    baskets of it, at round strikes, at prices by so much noise about what a model says."""
+    forwards = [10 * round(40 * 10 ** draw.random()) for _ in range(underlyings)]
+    index = [max(1, round(draw.uniform(0.5, 1.5) * 1500 / it)) for it in forwards]
+    paths = paths_of(draw, forwards)
+    lines: list[str] = []
+    while len(lines) < orders:
+        weights = asked_weights(draw, forwards, index)
+        worths = [sum(w * p for w, p in zip(weights, path)) for path in paths]
+        near = sum(worths) / len(worths)
+        spread = math.sqrt(sum((it - near) ** 2 for it in worths) / len(worths))
+        size = sum(abs(w) * it for w, it in zip(weights, forwards))
+        strike = round_strike(draw, size, near, spread)
+        kind = "call" if (strike >= near) == (draw.random() < 0.8) else "put"
+        turn = 1 if kind == "call" else -1
+        model = sum(max(0.0, turn * (it - strike)) for it in worths) / len(worths)
+        side = draw.choice(("buy", "sell"))
+        price = round(model * math.exp(draw.gauss(0, noise)) * (0.96 if side == "buy" else 1.04))
+        if strike > 0 and price > 0:
+            quantity = draw.choice((1, 2, 5, 10, 20, 50, 100))
+            about = side, draw.randint(1, 40), 1, kind, strike, price, quantity
+            lines.append(",".join(map(str, (*about, *weights))))
     return lines

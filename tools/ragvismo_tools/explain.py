@@ -5,6 +5,7 @@
 FILE, or standard input where it is a minus or missing, is what `exchange run` would read, or the
 word that is given. For each line that would be refused so, one line tells the reason, the first
 field at fault, what stands there, and what may stand there; good lines are passed over in silence.
+Of a line of `serve` that asks, what stands behind its `?` is told; lines are counted as they stand.
 What depends on the lines before, such as whether an account is open, is not looked at. The status
 is 0 where no line is refused so, 1 where some are, and 2 for bad use, with one line on standard
 error.
@@ -207,6 +208,8 @@ KNOWN = {
 }
 # A line of serve that begins so is a proposal, and is not parted at its other commas.
 PROPOSES = b"propose,"
+# And one that begins so asks what stands behind it.
+ASKS = b"?"
 
 
 def value(text: str) -> int:
@@ -381,7 +384,12 @@ def fault_in_proposal(text: bytes) -> Fault | None:
 
 
 def fault_of(line: bytes, word: str) -> Fault | None:
-    """Why a line that is not empty is refused with Syntax or Range, if it is."""
+    """Why a line that is not empty is refused with Syntax or Range, if it is; of one that asks, by
+    what stands behind its `?`."""
+    return fault_in(line.removeprefix(ASKS) if word == "serve" else line, word)
+
+
+def fault_in(line: bytes, word: str) -> Fault | None:
     if line.startswith(PROPOSES):
         return (
             fault_in_proposal(line.removeprefix(PROPOSES))

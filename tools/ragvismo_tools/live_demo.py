@@ -6,8 +6,9 @@ It makes the named pipes FOLDER/one and FOLDER/two (in a new folder where none i
 `exchange serve` each line that comes through either as soon as it comes. Each line is printed with
 its trader, and below it the reply. In two other terminals `cat > FOLDER/one` and `cat > FOLDER/two`
 make you the traders; when both have ended, so does the exchange. With --play two made traders type
-a short session, each line after the reply to the one before. The status is that of the exchange, or
-2 for bad use, with one line on standard error.
+a short session, each line after the reply to the one before: the account of the second is secured,
+and an order of it is refused that it could not pay at any prices. The status is that of the
+exchange, or 2 for bad use, with one line on standard error.
 """
 from __future__ import annotations
 
@@ -28,13 +29,18 @@ PLAY = (
     ("one", "open,1"),
     ("two", "open,2"),
     ("one", "deposit,1,100"),
+    ("two", "deposit,2,10"),
     ("one", "market,1,1"),
-    ("two", "sell,2,1,call,5,8,1,1"),
-    ("two", "sell,2,1,call,12,4,1,1"),
-    ("one", "quote,1,100,call,10,1"),
-    ("one", "buy,1,1,call,10,6,1,1"),
+    ("two", "secure,2"),
+    ("two", "sell,2,1,put,5,2,1,1"),
+    ("two", "sell,2,1,put,12,7,1,1"),
+    ("two", "deposit,2,2"),
+    ("two", "sell,2,1,put,12,7,1,1"),
+    ("one", "quote,1,100,put,10,1"),
+    ("one", "buy,1,1,put,10,7,1,1"),
     ("two", "clear,1,100"),
-    ("two", "settle,1,11"),
+    ("two", "need,2"),
+    ("two", "settle,1,4"),
     ("one", "balance,1"),
     ("two", "balance,2"),
 )

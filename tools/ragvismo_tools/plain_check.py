@@ -163,17 +163,23 @@ def are_few_cells(cover: Value) -> bool:
 
 
 CELLS = Keys(cells=Many(Either(cell_of)), test=are_few_cells)
-PROPOSED_COVER = Either(
-    lambda value: CELLS
-    if type(value) is dict
-    else MATCH_COVER
-    if value == "match"
-    else cover_of(value)
-)
+SHORT_TREE = Many(NODE, range_most=20_000)
+
+
+def proposed_cover_of(value: Any) -> Kind:
+    if type(value) is dict:
+        return CELLS
+    if type(value) is str:
+        return MATCH_COVER if value == "match" else LINE_COVER
+    return SHORT_TREE
+
+
+PROPOSED_COVER = Either(proposed_cover_of)
 STATE = Many(Text(False, least=0), 2, 9, test=lambda state: any(entry != "0" for entry in state))
-MEASURE = Many(Keys(state=STATE, weight=FRACTIONS))
+POINT = Keys(state=STATE, weight=FRACTIONS)
+MEASURE, SHORT_MEASURE = Many(POINT), Many(POINT, range_most=1024)
 CERTIFICATE = Keys(cover=COVER, measure=MEASURE)
-PROOF = Keys(cover=PROPOSED_COVER, measure=MEASURE)
+PROOF = Keys(cover=PROPOSED_COVER, measure=SHORT_MEASURE)
 WIDE = Keys(left=FRACTIONS, operator=Word("add", "mul", "div", "whole"), right=FRACTIONS)
 PAYOUT = Keys(account=ACCOUNT, amount=AMOUNT, batch=BATCH, order=ORDER)
 

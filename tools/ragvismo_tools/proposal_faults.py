@@ -14,6 +14,7 @@ WHOLE = re.compile(r"0|-?[1-9][0-9]*")
 FRACTION = re.compile(r"(0|-?[1-9][0-9]*)|(-?[1-9][0-9]*)/([2-9]|[1-9][0-9]+)")
 # The most nodes of a cover by cells, and the most classes in their lists.
 MOST_CELLS, MOST_LISTED = 100_000, 1_000_000
+MOST_NODES, MOST_POINTS = 20_000, 1_024
 # How deep the lists and objects of a text may stand in one another.
 DEPTH = 127
 
@@ -149,11 +150,15 @@ def cell(value: Any, at: str) -> None:
         whole(value["split"], f"the split of {at}", 1, 1024)
 
 
+def at_most(value: Any, at: str, what: str, most: int) -> None:
+    if len(value) > most:
+        wrong(f"{at} has {len(value)} {what}, and may have {most}")
+
+
 def cells(value: Any, at: str) -> None:
     keyed(value, at, ("cells",))
     listed(value["cells"], f"the cells of {at}", cell)
-    if len(value["cells"]) > MOST_CELLS:
-        wrong(f"{at} has {len(value['cells'])} nodes, and may have {MOST_CELLS}")
+    at_most(value["cells"], at, "nodes", MOST_CELLS)
     lists = [each for it in value["cells"] for each in it.values() if type(each) is list]
     named = sum(type(each) is int for it in lists for each in it)
     if named > MOST_LISTED:
@@ -165,6 +170,7 @@ def cover(value: Any, at: str) -> None:
         cells(value, at)
     elif type(value) is list:
         listed(value, at, node)
+        at_most(value, at, "nodes", MOST_NODES)
     elif value not in ("line", "match"):
         wrong(
             f'{at} is {shown(value)}; "line", "match", a list of nodes, or an object with cells'
@@ -176,6 +182,7 @@ def certificate(value: Any, at: str) -> None:
     keyed(value, at, ("cover", "measure"))
     cover(value["cover"], "the cover")
     listed(value["measure"], "the measure", point)
+    at_most(value["measure"], "the measure", "points", MOST_POINTS)
 
 
 def order(value: Any, at: str) -> None:

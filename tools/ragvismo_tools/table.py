@@ -226,7 +226,8 @@ class Telling:
             is_left,
         )
         if it.bound is not None:
-            self.tell_line() if it.certificate.cover == "line" else self.tell_tree()
+            tells = {"line": self.tell_line, "match": self.tell_balance}
+            tells.get(str(it.certificate.cover), self.tell_tree)()
             self.tell_measure()
         else:
             self.tell_balance()

@@ -10,18 +10,18 @@ program as well (--before FILE), and but what lacks its program, as a line on st
 These two clear the same batches, or run the same streams, with both programs in turn, and count
 their instructions by valgrind, which does not depend on what else the machine does. The next six
 measure the words check, sessions, quotes and guarded, and clears on several underlyings, where the
-program has them; secured sets an order of a secured account beside that of another; passes counts
-by cases_bench which clears fit numbers of 64 bits. The last sets exact solvers beside a clear:
-QSopt_ex (esolver) and glpsol --exact, which Debian has in qsopt-ex and glpk-utils; one that is not
-installed is left out, and a line says so. Live prints four tables of the word serve: a file through
-it beside run, a line and its reply over a pipe, starting again, and memory. Proposals are lines of
-serve that are judged; near is what the word propose finds. Fixed counts the instructions of six
-clears, which a change is compared by; with --before FILE the older program's stand beside. Inputs
-are made from fixed seeds, so that anybody can take the figures again: the program is the one that
-./build makes (crates/exchange_cli/out/exchange_cli), that of fractions and passes the one that `rt
-run` makes in crates/cases_bench. A time is the processor time of a whole process, the least of
-three runs (or of --runs N), its output thrown away; memory is the greatest that it held. With
---quick there is one run, and less of everything.
+program has them; secured tells what an order of a secured account takes more than that of another,
+as the least of five runs; passes counts by cases_bench which clears fit numbers of 64 bits. The
+last sets exact solvers beside a clear: QSopt_ex (esolver) and glpsol --exact, which Debian has in
+qsopt-ex and glpk-utils; one that is not installed is left out, and a line says so. Live prints four
+tables of the word serve: a file through it beside run, a line and its reply over a pipe, starting
+again, and memory. Proposals are lines of serve that are judged; near is what the word propose
+finds. Fixed counts the instructions of six clears, which a change is compared by; with --before
+FILE the older program's stand beside. Inputs are made from fixed seeds, so that anybody can take
+the figures again: the program is the one that ./build makes (crates/exchange_cli/out/exchange_cli),
+that of fractions and passes the one that `rt run` makes in crates/cases_bench. A time is the
+processor time of a whole process, the least of three runs (or of --runs N), its output thrown away;
+memory is the greatest that it held. With --quick there is one run, and less of everything.
 """
 
 from __future__ import annotations

@@ -8,7 +8,7 @@ import re
 import sys
 from fractions import Fraction
 
-from ragvismo_tools import counted
+from ragvismo_tools import counted, timing
 from ragvismo_tools.batches import batch, opened
 from ragvismo_tools.bench.clears import cleared
 from ragvismo_tools.timing import least, run, spread, table
@@ -194,7 +194,9 @@ def margin(program: pathlib.Path, quick: bool) -> None:
 
 
 def held_and_offered(held: int, offered: int, underlyings: int) -> list[str]:
-    """Account 1 holds so many options, each another, that account 2 sold, and offers so many."""
+    """Account 1 holds so many options, each another, that account 2 sold, and offers so many. With
+    one unit the clear's own run stops at once, so that each buy is filled whole by the sell of it.
+    """
 
     def order(side: str, account: int, number: int, price: int) -> str:
         weights = [0] * underlyings
@@ -208,12 +210,12 @@ def held_and_offered(held: int, offered: int, underlyings: int) -> list[str]:
     lines += [f"deposit,{account},100000000000" for account in (1, 2)]
     for number in range(held):
         lines += [order("buy", 1, number, 50), order("sell", 2, number, 5)]
-    lines.append("clear,1,20000")
+    lines.append("clear,1,1")
     return lines + [order("sell", 1, held + number, 9) for number in range(offered)]
 
 
 def an_order_more(program: pathlib.Path, before: list[str], count: int, accepted: int) -> float:
-    """The seconds of an order after these lines, and of its cancel, in so many turns."""
+    """The seconds of an order after these lines, and of its cancel, in so many turns of one run."""
     weights = ",".join("1" * int(before[0].split(",")[2]))
     turns = [
         line
@@ -221,21 +223,27 @@ def an_order_more(program: pathlib.Path, before: list[str], count: int, accepted
         for line in (f"sell,1,1,put,5,{3 + number % 7},1,{weights}", f"cancel,1,{number}")
     ]
     seconds = [
-        least(program, ["serve"], "\n".join(lines))[0] for lines in ([*before, *turns], before)
+        run([program], ["serve"], "\n".join(lines))[0] for lines in ([*before, *turns], before)
     ]
-    return max(0.0, seconds[0] - seconds[1]) / count
+    return (seconds[0] - seconds[1]) / count
 
 
 def secured(program: pathlib.Path, quick: bool) -> None:
-    """An order of an account, and its cancel, where the account is secured and where it is not."""
+    """An order of an account, and its cancel, and what both take more where the account is secured:
+    the least of some runs."""
     rows = []
     for underlyings, held, offered in ((1, 20, 20), (1, 100, 100), (8, 20, 0)):
         before = held_and_offered(held, offered, underlyings)
         count = (200 if quick else 2_000) // (1 if underlyings == 1 else 10)
-        turns = [
-            an_order_more(program, lines, count, 2 * held + offered)
-            for lines in (before, [*before, "secure,1"])
+        pairs = [
+            [
+                an_order_more(program, lines, count, 2 * held + offered)
+                for lines in (before, [*before, "secure,1"])
+            ]
+            for _ in range(2 * timing.RUNS - 1)
         ]
-        rows.append([underlyings, held, offered, *(f"{1e6 * spent:.0f}" for spent in turns)])
-    head = ["Underlyings", "Held", "Live", "Microseconds, not secured", "secured"]
+        plain, more = (min(seconds) for seconds in zip(*pairs))
+        taken = plain, more - plain
+        rows.append([underlyings, held, offered, *(f"{1e6 * spent:.0f}" for spent in taken)])
+    head = ["Underlyings", "Held", "Live", "Microseconds", "More where it is secured"]
     table("An order and its cancel of a secured account", head, rows)

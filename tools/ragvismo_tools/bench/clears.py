@@ -153,7 +153,8 @@ def fixed(programs: Sequence[pathlib.Path], quick: bool) -> None:
 
 def several(program: pathlib.Path, quick: bool) -> None:
     """A round is one solve of a master program, a node one program of a search."""
-    rows, names = [], ("rounds::master_solve::solve_over::", "pricing_oracle::branches::branch::")
+    master = "constraint_generation::master_solve::solve_over::"
+    rows, names = [], (master, "pricing_oracle::branches::branch::")
     for underlyings in (2, 3, 8):
         for orders, batches in ((10, 20), (20, 10), (40, 5)):
             seconds, units, marks, counts, memory = [], [], [], [], 0.0

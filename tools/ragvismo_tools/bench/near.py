@@ -7,7 +7,7 @@ from random import Random
 from typing import Any
 
 from ragvismo_tools import timing
-from ragvismo_tools.batches import batch, bundles, opened, wild
+from ragvismo_tools.batches import batch, bundles, opened, realistic, wild
 from ragvismo_tools.timing import held, run, table
 
 Found = dict[str, Any]
@@ -22,10 +22,16 @@ def kinds(quick: bool) -> Iterator[tuple[str, int, list[list[str]]]]:
             seeds = [Random(f"near 1 {orders} {strikes} {it}") for it in range(many)]
             yield name, 1, [batch(it, orders, strikes) for it in seeds]
     for underlyings in (2, 3, 8):
-        for orders in (20, 40, 100, 128, 256):
+        for orders in (20, 40, 60, 100, 128, 256):
             seeds = [Random(f"near {underlyings} {orders} 100 {it}") for it in range(many)]
             yield f"{underlyings} x {orders}", underlyings, [
                 batch(it, orders, 100, underlyings) for it in seeds
+            ]
+    for name, noise in (("realistic", 0.08), ("crossing", 0.15)):
+        for underlyings, orders in ((3, 128), (3, 256), (8, 60), (8, 128), (8, 256)):
+            seeds = [Random(f"near {name} {underlyings} {orders} {it}") for it in range(many)]
+            yield f"{underlyings} x {orders}, {name}", underlyings, [
+                realistic(it, orders, underlyings, noise) for it in seeds
             ]
     for underlyings in (1, 2, 3):
         for orders in (40, 100):
@@ -39,6 +45,13 @@ def kinds(quick: bool) -> Iterator[tuple[str, int, list[list[str]]]]:
             yield f"{underlyings} x {orders}, whole limits", underlyings, [
                 wild(it, orders, underlyings) for it in seeds
             ]
+
+
+def nodes_of(cover: Any) -> int:
+    """How many nodes a cover has: none where it is a word."""
+    if isinstance(cover, str):
+        return 0
+    return len(cover["cells"] if isinstance(cover, dict) else cover)
 
 
 def reply(program: object, lines: list[str], kind: str) -> Found:
@@ -62,7 +75,7 @@ def solved(program: object, underlyings: int, orders: list[str]) -> Found:
         "bound": Fraction(reply(program, [*lines, line], "proposed")["bound"]),
         "seconds": seconds,
         "memory": held(program, ["propose"], book, (0,)),
-        "nodes": 0 if cover == "line" else len(cover),
+        "nodes": nodes_of(cover),
         "bytes": len(line),
         "mark": cleared["mark"],
         "reference": Fraction(cleared["surplus"]),

@@ -2,18 +2,19 @@
 
 from __future__ import annotations
 
-import pathlib
-from typing import Any
-from ragvismo_tools.proposed import Proposal
 import json
+import pathlib
 import random
 import sys
+from collections.abc import Iterator
 from fractions import Fraction
+from typing import Any
 
-from ragvismo_tools import kinds, plain_check, proposed
+from ragvismo_tools import kinds, plain_check, proposed, timing
 from ragvismo_tools.hostile.changes import changed_proposal
 from ragvismo_tools.hostile.trial import LINE_LIMIT, expect, replies_of, run
 from ragvismo_tools.places import TOP
+from ragvismo_tools.proposed import Proposal
 
 
 Reply = dict[str, Any]
@@ -138,10 +139,10 @@ def padded(proposal: Proposal, size: int) -> str:
 def large_proposals(program: pathlib.Path, quick: bool) -> int:
     """Texts at the limit of a line, trees that are wide and deep, and nested lists."""
     one, room = b"open,1\nmarket,1,1\nbuy,1,1,call,10,0,1,1\n", LINE_LIMIT - len(b"propose,1,")
-    trees = proposed.covered_by_tree(*((6, 16) if quick else (12, 128))), proposed.deep_tree(256)
+    trees = proposed.covered_by_tree(*((6, 16) if quick else (11, 128))), proposed.deep_tree(243)
     filled = padded(proposed.unfilled([1], 1), room)
     cases = [
-        (one, filled, "proposed"),
+        (one, filled, "Syntax"),
         *(
             ("\n".join([*before, ""]).encode(), proposed.spelled(it), "proposed")
             for before, it in trees
@@ -162,6 +163,51 @@ def large_proposals(program: pathlib.Path, quick: bool) -> int:
     return len(cases) + 1
 
 
+def judged_long(quick: bool) -> Iterator[tuple[list[str], Proposal]]:
+    """Batches whose lines are given, each with a proposal that takes long to judge: a full tree, a
+    deep one, and for 256 bundles of four puts on eight underlyings, of which none is filled, a
+    full tree over their classes and a measure of as many points as there may be."""
+    yield proposed.covered_by_tree(*((6, 16) if quick else (11, 128)))
+    yield proposed.deep_tree(60 if quick else 243)
+    draw, depth = random.Random("judged"), 8 if quick else 15
+    puts = [[f"1,put,{draw.randint(1, 10**9)}", *weights_of(draw)] for _ in range(1024)]
+    bundles = [
+        f"bundle,1,1,buy,0,1,4,{','.join(map(','.join, puts[at : at + 4]))}"
+        for at in range(0, 1024, 4)
+    ]
+    points = [
+        {"state": ["1", *(str(draw.randint(0, 10**9)) for _ in range(8))], "weight": "1/1024"}
+        for _ in range(1024)
+    ]
+    unfilled = proposed.unfilled(list(range(1, 257)), 8)
+    cells = {"cells": proposed.full_tree(depth, {"leaf": []})}
+    certificate = {"cover": cells, "measure": points}
+    yield ["open,1", "market,1,8", *bundles], {**unfilled, "certificate": certificate}
+
+
+def weights_of(draw: random.Random) -> list[str]:
+    return [str(draw.choice((-1, 1)) * draw.randint(1, 1000)) for _ in range(8)]
+
+
+def judgements(program: pathlib.Path, quick: bool) -> tuple[int, float, float]:
+    """How many of these are judged a bound, each within 3 seconds and in memory of at most 3 times
+    its line beside its reading, the greatest seconds and the greatest memory in lines."""
+    seconds, lines, count = 0.0, 0.0, 0
+    for before, proposal in judged_long(quick):
+        texts = [
+            "\n".join([*before, proposed.line_of(1, it), ""])
+            for it in (proposal, {**proposal, "orders": []})
+        ]
+        said = timing.run([program], ["serve"], texts[0], keep=True)[1].splitlines()[-1]
+        expect('"reply":"proposed"' in said, f"not judged a bound: {said}")
+        (took, holds), (reading, held) = (timing.least(program, ["serve"], it) for it in texts)
+        seconds = max(seconds, took - reading)
+        size = len(proposed.line_of(1, proposal)) / 2**20
+        lines, count = max(lines, (holds - held) / max(size, 1)), count + 1
+    expect(seconds <= 3 and lines <= 3, f"judged in {seconds:.2f} s, {lines:.1f} lines")
+    return count, seconds, lines
+
+
 def proposals(program: pathlib.Path, quick: bool) -> tuple[int, str]:
     sys.setrecursionlimit(20_000)
     told: dict[str, int] = {}
@@ -169,13 +215,15 @@ def proposals(program: pathlib.Path, quick: bool) -> tuple[int, str]:
     for name in BATCHES:
         changed_proposals(program, name, count, told)
     large = large_proposals(program, quick)
+    long, seconds, lines = judgements(program, quick)
     most = ", ".join(
         f"{told[word]:,} {word}" for word in sorted(told, key=told.__getitem__, reverse=True)
     )
     return (
-        len(BATCHES) * count + large,
+        len(BATCHES) * count + large + long,
         (
             f"{most}, each as the second check says; each clear as the best of them prove;"
-            f" {large} large: judged, Syntax, or TooLong past the limit"
+            f" {large} large: judged, Syntax, or TooLong past the limit; {long} judged in at most"
+            f" {seconds:.2f} s and {lines:.1f} times the line's memory beside their reading"
         ),
     )

@@ -21,10 +21,13 @@ EXAMPLES = {
     "sessions": "sessions",
     "serve": "serve",
     "proposals": "serve",
+    "match": "serve",
     "phases": "serve",
     "secured": "serve",
     "hundred": "serve",
+    "questions": "serve",
     "serve-sessions": "serve-sessions",
+    "members": "serve-members",
 }
 JOURNALS = sorted(it for it in (TOP / "examples").glob("*.replies") if it.stem not in EXAMPLES)
 PROPOSAL = (

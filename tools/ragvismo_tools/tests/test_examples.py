@@ -55,7 +55,7 @@ class Examples(unittest.TestCase):
                 rb'|secured)"'
             )
             batches, bounded, optimal = (
-                sum(part in line for line in lines)
+                sum(part in line for line in lines if b'"cleared"' in line)
                 for part in (b'"cleared"', b'"bounded"', b'"optimal"')
             )
             counts = {

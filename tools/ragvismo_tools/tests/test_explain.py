@@ -70,6 +70,13 @@ class Explain(Folder):
                     told[line],
                 )
 
+    def test_what_is_asked_is_told(self) -> None:
+        text = b"?balance,0\n?try,1,9,buy,6,1,call,10\n??balance,0\n?\n?balance,x\n"
+        told = self.said(text, "--word", "serve")
+        self.assertEqual(list(told), [2, 3, 4, 5])
+        self.assertIn("a weight", told[2])
+        self.assertEqual(list(self.said(text)), [1, 2, 3, 4, 5])
+
     def test_the_mistakes_that_help_shows(self) -> None:
         table = (
             run("explain", "--help")

@@ -29,9 +29,11 @@ class Live(Folder):
         ran = run("live-demo", self.folder, "--play")
         said = ran.stdout.decode().splitlines()
         self.assertEqual((ran.returncode, ran.stderr, list(self.folder.iterdir())), (0, b"", []))
-        self.assertIn(
-            '     {"account":1,"balance":"95","line":11,"reply":"balance","reserved":"0"}', said
-        )
+        for line in (
+            '     {"line":8,"need":"12","number":14,"reason":"Margin","reply":"refused"}',
+            '     {"account":2,"balance":"10","line":17,"reply":"balance","reserved":"0"}',
+        ):
+            self.assertIn(line, said)
         closed = subprocess.run(
             f"{TOP / 'tools/live-demo'} --play | true", shell=True, stderr=subprocess.PIPE
         )
@@ -110,3 +112,11 @@ class Auction(Folder):
                 self.assertTrue(told.readline().startswith(b"propose,1,{"))
             given.close()
             self.assertEqual((told.read(), child.wait()), (b"", 0))
+
+    def test_the_example_of_a_solver_answers_each_book(self) -> None:
+        bought = "open,1\nmarket,1,1\nmarket,2,2\nbuy,1,1,put,10,0,1,1\nbook,2\nbook,1\n"
+        solver = str(TOP / "examples/solver.py")
+        ran = run("auction", "--solver", solver, input=f"{bought}clear,2,9\nclear,1,9\n".encode())
+        replies = [json.loads(it)["reply"] for it in ran.stdout.splitlines()]
+        self.assertEqual(ran.stderr, b"")
+        self.assertEqual(replies[-5:], ["book", "cleared", "book", "proposed", "cleared"])

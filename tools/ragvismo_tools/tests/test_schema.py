@@ -54,10 +54,13 @@ class Schema(unittest.TestCase):
             "sessions": {"answer", "gate"},
             "serve": {"quoted", "priced", "margin", "refused"},
             "proposals": {"book", "proposed", "cleared", "positions"},
+            "match": {"book", "proposed", "cleared"},
             "phases": {"closed", "refused", "proposed", "cleared"},
             "secured": {"secured", "need", "refused"},
             "hundred": {"book", "proposed", "cleared"},
+            "questions": {"book", "quoted", "priced", "tried", "refused", "need", "positions"},
             "serve-sessions": {"answer", "gate"},
+            "members": {"answer", "asked", "gate"},
         }
         for name, word in EXAMPLES.items():
             lines = [

@@ -83,6 +83,7 @@ class Script(Folder):
             "sessions",
             "serve",
             "serve sessions",
+            "serve members",
             "propose",
             "demo SEED COUNT",
         ):
@@ -208,6 +209,7 @@ class Script(Folder):
         cases: tuple[tuple[tuple[str, ...], pathlib.Path, str | None, int, str], ...] = (
             (("serve",), empty, KIT, 69, "make it by ./build"),
             (("serve", "sessions"), empty, KIT, 69, "make it by ./build"),
+            (("serve", "members"), empty, KIT, 69, "make it by ./build"),
             (("propose",), empty, KIT, 69, "make it by ./build"),
             (("run",), empty, None, 69, f"rt version must print {kit}"),
             (("check",), large, KIT, 69, "64 MiB"),
