@@ -24,7 +24,6 @@ import argparse
 import collections
 import logging
 import re
-import time
 from typing import Any, NamedTuple
 
 from ragvismo_service.books import (
@@ -32,14 +31,13 @@ from ragvismo_service.books import (
     LAST_OF_OPERATOR,
     Books,
     clock,
-    order_of,
     told_book,
     told_result,
 )
 from ragvismo_service.chain import Answered
 from ragvismo_service.following import Follower
 from ragvismo_service.markets import Closing, Market, Markets, Said
-from ragvismo_service.messages import answer_of
+from ragvismo_service.messages import answer_of, order_of
 from ragvismo_service.places import Keys
 from ragvismo_service.statuses import BadUse, Status, table
 from ragvismo_service.store import Store
@@ -108,7 +106,7 @@ class Auctioneer:
         auctioneer that was killed."""
         self.follower.begin()
         if last := self.store.say(b"XREVRANGE", self.keys.taken, b"+", b"-", b"COUNT", b"1"):
-            self.wait_for(last[0][0])
+            self.follower.wait_for(last[0][0])
         told = order_of(self.books.last())
         while self.news and order_of(self.news[0].id) <= told:
             self.news.popleft()
@@ -132,7 +130,7 @@ class Auctioneer:
         fields = [b"session", b"%d" % session, b"number", b"%d" % number, b"body", body]
         self.answer = {}
         self.asked = self.store.say(b"XADD", self.keys.taken, b"*", *fields)
-        self.wait_for(self.asked)
+        self.follower.wait_for(self.asked)
         reply = self.answer.get("of", self.answer)
         # What a solver wrote is not shown.
         line = body.decode() if session == self.terms.session else "its proposal"
@@ -143,17 +141,6 @@ class Auctioneer:
         reason = reply.get("reason", OTHERS_WERE_FIRST[0])
         if session == self.terms.session and not is_clear and reason not in OTHERS_WERE_FIRST:
             raise BadUse(f"{line} of session {session} is refused: {reason}")
-
-    def wait_for(self, id: bytes) -> None:
-        """Waits until the entry of an id is answered; not for one that Redis lost."""
-        since = time.monotonic()
-        while order_of(self.follower.history.since) < order_of(id):
-            self.follower.wait_for_more(1)
-            if time.monotonic() > since + self.store.patience:
-                if not self.store.say(b"XRANGE", self.keys.taken, id, id):
-                    return
-                logging.info("entry %s waits for its answer", id.decode())
-                since = time.monotonic()
 
     # ---- auctions
 

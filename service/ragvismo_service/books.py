@@ -45,12 +45,6 @@ def told_result(cleared: Reply) -> bytes:
     return compact(dict(sorted(said.items())))
 
 
-def order_of(id: bytes) -> tuple[int, int]:
-    """What the ids of entries are compared by."""
-    time_part, number = map(int, id.split(b"-"))
-    return time_part, number
-
-
 def clock(store: Store) -> int:
     """The time of Redis, in milliseconds."""
     seconds, micros = map(int, store.say(b"TIME"))

@@ -1,14 +1,15 @@
 """Ends a day of an exchange: journal, verify, audit, backup and carry-over, each only where those
 before hold.
 
-    service/day-end FOLDER [--at PLACE] [--backups FOLDER] [--program FILE]
+    service/day-end FOLDER [--at PLACE] [--backups FOLDER] [--program FILE] [--sessions]
 
 It writes what is new to the journal in FOLDER and recomputes the chain through its files; checks
 the chain of the log, in which the last sum of the journal has to be; has `exchange audit` judge all
 replies; copies the log to --backups (FOLDER itself, if not given) under the day's date, and starts
-a Redis from the copy, of which the chain has to hold too; and writes FOLDER/next.commands, with
-which the next exchange would begin, and says what these cannot carry. Each step prints a line. A
-copy is a folder from which `service/up` starts.
+a Redis from the copy, of which the chain has to hold too; and writes FOLDER/next.messages, with
+which `service/begin` begins the next exchange, has the program answer them, and says what they
+cannot carry: each account is opened by the session that opened it. Each step prints a line. A copy
+is a folder from which `service/up` starts.
 
 It ends with 0, or with one line on standard error and status
 """
@@ -20,7 +21,9 @@ import pathlib
 import subprocess
 
 from ragvismo_service import backups, files
+from ragvismo_service.carrying import Owners, messages, rehearsed
 from ragvismo_service.journal import SIZE, verify, write_new
+from ragvismo_service.program import Rule
 from ragvismo_service.segments import Segment, segments
 from ragvismo_service.statuses import Ended, Status, table
 from ragvismo_service.store import Store
@@ -64,18 +67,20 @@ def audited(folder: pathlib.Path, program: pathlib.Path) -> str:
     return ran.stdout.decode().rstrip()
 
 
-def carried(folder: pathlib.Path) -> str:
-    """Writes the lines of the next exchange, and tells what is left behind."""
+def carried(folder: pathlib.Path, program: pathlib.Path, rule: Rule) -> str:
+    """Writes the messages of the next exchange, and tells what is left behind."""
     ran = over_replies(folder, TOOLS / "carry-over", "-")
     if ran.returncode not in CARRIED:
         raise Ended(Status.NO, f"nothing can be carried over: {said(ran)}")
-    path, lines, left = folder / "next.commands", ran.stdout.splitlines(), ran.stderr.decode()
-    files.write(path, ran.stdout)
-    return f"{path} has {len(lines)} lines; left behind: {left or 'nothing'}".rstrip()
+    given = list(messages(Owners(folder).bodies(ran.stdout.splitlines())))
+    path, left = folder / "next.messages", ran.stderr.decode()
+    holds = rehearsed(given, program, rule)
+    files.write(path, b"".join(message.line() + b"\n" for message in given))
+    return f"{path} has {holds}; left behind: {left or 'nothing'}".rstrip()
 
 
 def end_day(
-    folder: pathlib.Path, store: Store, copies: pathlib.Path, program: pathlib.Path
+    folder: pathlib.Path, store: Store, copies: pathlib.Path, program: pathlib.Path, rule: Rule
 ) -> None:
     last: Segment = write_new(folder, store, SIZE)
     print("journal:", verify(folder), flush=True)
@@ -84,7 +89,7 @@ def end_day(
     print("audit:", audited(folder, program), flush=True)
     copy = copies / f"{datetime.datetime.now(datetime.UTC):%Y-%m-%d}"
     print(f"backup: in {copy}", backups.made(store, copy, head), flush=True)
-    print("carry-over:", carried(folder), flush=True)
+    print("carry-over:", carried(folder, program, rule), flush=True)
 
 
 def run() -> None:
@@ -92,8 +97,10 @@ def run() -> None:
     words.add_argument("folder", metavar="FOLDER", type=pathlib.Path)
     words.add_argument("--backups", type=pathlib.Path, metavar="FOLDER")
     words.add_program()
+    words.add_rule()
     given = words.parse_args()
-    end_day(given.folder, store_of(given), given.backups or given.folder, given.program)
+    copies = given.backups or given.folder
+    end_day(given.folder, store_of(given), copies, given.program, given.rule)
 
 
 def main() -> int:

@@ -2,6 +2,7 @@
 
 from __future__ import annotations
 
+import logging
 import time
 from collections.abc import Callable
 from typing import NamedTuple
@@ -9,7 +10,7 @@ from typing import NamedTuple
 from ragvismo_service.chain import FIRST_HEAD, Answered
 from ragvismo_service.connecting import client_name
 from ragvismo_service.history import History
-from ragvismo_service.messages import START_ID, time_of
+from ragvismo_service.messages import START_ID, order_of, time_of
 from ragvismo_service.store import Store
 from ragvismo_service.streams import counts
 
@@ -61,21 +62,31 @@ class Follower:
         )
         self.read_on(True)
 
+    def wait_for(self, id: bytes) -> None:
+        """Waits until the entry of an id is answered; not for one that Redis lost."""
+        since, store = time.monotonic(), self.store
+        while order_of(self.history.since) < order_of(id):
+            self.wait_for_more(1)
+            if time.monotonic() > since + store.patience:
+                if not store.say(b"XRANGE", self.history.keys.taken, id, id):
+                    return
+                logging.info("entry %s waits for its answer", id.decode())
+                since = time.monotonic()
+
     def state(self) -> State:
         """How the log is; Ended where entries were taken out."""
         appended, answered = counts(self.store, self.history.keys)
-        return State(
-            appended.length, appended.length - answered.length, self._waited(), self._sequencers()
-        )
+        lag = appended.length - answered.length
+        return State(appended.length, lag, self._waited(), self.connected("sequencer"))
 
     def _waited(self) -> float:
         waiting = self.history.entries
         return max(0.0, time.time() - time_of(waiting[0][0]) / 1000) if waiting else 0.0
 
-    def _sequencers(self) -> int:
-        """How many sequencers of this exchange are connected."""
+    def connected(self, tool: str) -> int:
+        """How many of a tool of this exchange are connected."""
         clients = self.store.say(b"CLIENT", b"LIST").decode().splitlines()
-        name = f"name={client_name('sequencer', self.store.place.name)}"
+        name = f"name={client_name(tool, self.store.place.name)}"
         return sum(name in client.split() for client in clients)
 
 

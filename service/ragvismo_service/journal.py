@@ -7,7 +7,7 @@ A call writes what was answered since the last one as segments, each of one day 
 and of --size bytes (67108864, if not given) and one entry at most. NNNNNN.messages has a line for
 each entry, ID,SESSION,NUMBER,BODY, the ID beginning with its time in milliseconds; for one that is
 no message ID!REASON,SHA256. NNNNNN.replies has what the program answered, as `audit` judges it, so
-    sed -n 's/^[0-9-]*,//p' FOLDER/*.messages | exchange serve sessions
+    sed -n 's/^[0-9-]*,//p' FOLDER/*.messages | exchange serve members
 writes the bytes of all of them (LC_ALL=C; the answer to an entry that is no message follows from
 its line). FOLDER/segments has a line for each segment, with the sums of its files, the head of the
 chain, and the sum of the line before. What is not told there does not count and is written anew.

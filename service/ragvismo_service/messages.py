@@ -128,7 +128,13 @@ def time_of(id: bytes) -> int:
     return int(id.split(b"-")[0])
 
 
+def order_of(id: bytes) -> tuple[int, int]:
+    """What the ids of entries are compared by."""
+    time_part, number = map(int, id.split(b"-"))
+    return time_part, number
+
+
 def before(id: bytes) -> bytes:
     """The greatest id below."""
-    time_part, number = map(int, id.split(b"-"))
+    time_part, number = order_of(id)
     return b"%d-%d" % ((time_part, number - 1) if number else (time_part - 1, 2**64 - 1))

@@ -3,11 +3,12 @@
     service/metrics [--at PLACE] [--listen HOST:PORT] [--every SECONDS]
 
 At http://HOST:PORT/metrics (127.0.0.1:9380, if not given) stand the entries, how many are not
-answered and how long the oldest has waited, the sequencers that are connected, replies, refusals by
-reason, clears by mark, the seconds from append to answer of all and of clears that came since this
-runs, live orders, the balance of the house, how long a market has been closed, how much of each
-limit is used, and memory and copies of Redis. It reads the whole log, checks the chain of sums, and
-looks again every --every seconds (5). service/alerts.yml has rules that go with it.
+answered and how long the oldest has waited, the sequencers and followers that are connected, the
+questions that wait, replies, refusals by reason, clears by mark, the seconds from append to answer
+of all and of clears that came since this runs, live orders, the balance of the house, how long a
+market has been closed, how much of each limit is used, and memory and copies of Redis. It reads the
+whole log, checks the chain of sums, and looks again every --every seconds (5). service/alerts.yml
+has rules that go with it.
 
 It runs until it is stopped, or ends with one line on standard error and status
 """
@@ -38,6 +39,8 @@ GAUGES = {
     "lag_entries": "Entries that are not answered",
     "oldest_wait_seconds": "How long the oldest of these has waited",
     "sequencers": "Sequencers that are connected",
+    "followers": "Followers that are connected",
+    "questions": "Questions that are not answered",
     "live_orders": "Orders that are live",
     "house_balance_ticks": "What the house has",
     "longest_closed_seconds": "How long a market has been closed that was closed first",
@@ -98,6 +101,8 @@ class Metrics:
             "lag_entries": state.lag,
             "oldest_wait_seconds": state.waited,
             "sequencers": state.sequencers,
+            "followers": self.follower.connected("follower"),
+            "questions": self.store.say(b"XLEN", self.follower.history.keys.questions),
             "live_orders": len(self.figures.live),
             "house_balance_ticks": self.figures.house,
             "longest_closed_seconds": self.longest_closed(),

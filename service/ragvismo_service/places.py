@@ -63,8 +63,9 @@ class Place:
 @dataclasses.dataclass(frozen=True)
 class Keys:
     """The keys of an exchange: the stream of messages, that of answers, the sum of its program's
-    file, what is written to see that another Redis has all, the stream of books, and what is before
-    the session of a solver in the key of its proposals."""
+    file, what is written to see that another Redis has all, the stream of books, what is before the
+    session of a solver in the key of its proposals, the stream of questions, and that of what was
+    told to them."""
 
     taken: bytes
     answers: bytes
@@ -72,8 +73,10 @@ class Keys:
     copied: bytes
     books: bytes
     proposals: bytes
+    questions: bytes
+    told: bytes
 
     @staticmethod
     def of(name: str) -> Keys:
-        keys = "in", "out", "program", "copied", "books", "proposals/"
+        keys = "in", "out", "program", "copied", "books", "proposals/", "questions", "told"
         return Keys(*(f"{name}:{key}".encode() for key in keys))

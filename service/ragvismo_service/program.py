@@ -2,13 +2,15 @@
 
 from __future__ import annotations
 
+import enum
 import hashlib
 import itertools
 import os
 import pathlib
 import select
 import subprocess
-from collections.abc import Iterator
+import time
+from collections.abc import Callable, Iterator
 from io import BufferedReader
 
 from ragvismo_service.chain import FIRST_HEAD, Answered, chained
@@ -16,6 +18,15 @@ from ragvismo_service.messages import Entry, malformed
 from ragvismo_service.statuses import BadUse, Ended, Status
 
 PIECE, PIPE = 1 << 16, 1 << 20
+# How often it is seen that the program says nothing, in seconds.
+OFTEN = 1.0
+
+
+class Rule(enum.StrEnum):
+    """Who may say what: the owner of an account and the operator, or anybody."""
+
+    MEMBERS = "members"
+    SESSIONS = "sessions"
 
 
 def opened(path: pathlib.Path) -> BufferedReader:
@@ -29,21 +40,27 @@ def opened(path: pathlib.Path) -> BufferedReader:
     return file
 
 
+def nothing() -> None:
+    """What is done where nothing is to be done."""
+
+
 class Program:
-    """The program `exchange serve sessions`, which answers each line with one; just the file whose
-    sum is `digest` is run.
+    """The program `exchange serve members`, or `exchange serve sessions`, which answers each line
+    with one; just the file whose sum is in `digest` is run.
 
     It ends with HANGS where for `patience` seconds it neither takes a byte nor answers.
     """
 
-    def __init__(self, path: pathlib.Path, patience: float) -> None:
+    def __init__(self, path: pathlib.Path, patience: float, rule: Rule) -> None:
         self.patience = patience
         # The pieces of an answer that has not ended.
         self.begun: list[bytes] = []
         with opened(path) as file:
-            self.digest = hashlib.file_digest(file, "sha256").hexdigest()
+            # What names who answers: the sum of the file, and which rule it keeps.
+            total = hashlib.file_digest(file, "sha256").hexdigest()
+            self.digest = total if rule is Rule.SESSIONS else f"{rule} {total}"
             self.process = subprocess.Popen(
-                [path, "serve", "sessions"],
+                [path, "serve", rule],
                 executable=f"/proc/self/fd/{file.fileno()}",
                 pass_fds=[file.fileno()],
                 stdin=subprocess.PIPE,
@@ -60,16 +77,21 @@ class Program:
         if (status := self.process.poll()) is not None:
             raise Ended(Status.PROGRAM_ENDED, f"the program ended with status {status}")
 
-    def answers(self, lines: list[bytes]) -> Iterator[list[bytes]]:
-        """The answers to lines, in order, in groups as they come."""
-        left, given = len(lines), memoryview(b"".join(lines))
+    def answers(
+        self, lines: list[bytes], meanwhile: Callable[[], None] = nothing
+    ) -> Iterator[list[bytes]]:
+        """The answers to lines, in order, in groups as they come; while there are none `meanwhile`
+        is done every second."""
+        left, given, since = len(lines), memoryview(b"".join(lines)), time.monotonic()
         while left:
             ready, room, _ = select.select(
-                [self.stdout], [self.stdin] if given else [], [], self.patience
+                [self.stdout], [self.stdin] if given else [], [], min(OFTEN, self.patience)
             )
             if not ready and not room:
-                self.process.kill()
-                raise Ended(Status.HANGS, f"the program answered nothing for {self.patience:g} s")
+                self._wait_since(since)
+                meanwhile()
+                continue
+            since = time.monotonic()
             if room:
                 given = self._give(given)
             group = self._read() if ready else []
@@ -78,6 +100,12 @@ class Program:
                 raise Ended(Status.PROGRAM_ENDED, "the program answered more than it was asked")
             if group:
                 yield group
+
+    def _wait_since(self, since: float) -> None:
+        """Ended where the program has been silent since a time for as long as patience lasts."""
+        if time.monotonic() >= since + self.patience:
+            self.process.kill()
+            raise Ended(Status.HANGS, f"the program answered nothing for {self.patience:g} s")
 
     def _give(self, text: memoryview) -> memoryview:
         """Writes what the pipe has room for, and tells what is left; nothing is left for a program

@@ -1,6 +1,6 @@
 """Answers the log of an exchange with another program, and compares with what was answered.
 
-    service/rehearse PROGRAM [--at PLACE] [--switch]
+    service/rehearse PROGRAM [--at PLACE] [--sessions] [--switch]
 
 It publishes nothing, and checks the chain of sums. Where all answers are the same it says how many;
 at the first that is not it prints both. With --switch and no difference the exchange is then
@@ -68,8 +68,9 @@ def run() -> Status:
     words = Words(f"{__doc__}{table(*STATUSES)}")
     words.add_argument("program", metavar="PROGRAM", type=runnable)
     words.add_argument("--switch", action="store_true")
+    words.add_rule()
     given = words.parse_args()
-    program = Program(given.program, given.patience)
+    program = Program(given.program, given.patience, given.rule)
     rehearsal = Rehearsal(store_of(given), program)
     rehearsal.history.begin()
     other = rehearsal.difference()

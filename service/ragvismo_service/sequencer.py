@@ -1,10 +1,11 @@
 """Answers the messages of an exchange, in the order of its log in Redis, each once.
 
-    service/sequencer [--at PLACE] [--program FILE] [--patience SECONDS]
+    service/sequencer [--at PLACE] [--program FILE] [--sessions] [--patience SECONDS]
 
-It reads the stream NAME:in from its first entry, gives each message to `exchange serve sessions`,
-and appends the answer to NAME:out under the id of the entry that it answers, with the head of the
-chain of sums. An entry that is no message never reaches the program; its answer is
+It reads the stream NAME:in from its first entry, gives each message to `exchange serve members`
+(with --sessions to `serve sessions`, where any session may move any account), and appends the
+answer to NAME:out under the id of the entry that it answers, with the head of the chain of sums. An
+entry that is no message never reaches the program; its answer is
 {"entry":ID,"reason":R,"reply":"service"}, R being Fields (other fields than session, number and
 body), Form (a line feed, a comma in session or number, or a `?` before the session, which asks) or
 Long (over 16,777,216 bytes as a line). Any number may run at once on any machines: each computes
@@ -163,8 +164,9 @@ def main() -> int:
 def run() -> None:
     words = Words(f"{__doc__}{table(*STATUSES)}\n\n{AGAIN}")
     words.add_program()
+    words.add_rule()
     given = words.parse_args()
     store = store_of(given)
-    program = Program(given.program, given.patience)
+    program = Program(given.program, given.patience, given.rule)
     logging.info("started at %s, with %s of sum %s", store.place, given.program, program.digest)
     Sequencer(store, program).run()

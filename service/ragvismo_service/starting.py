@@ -1,13 +1,15 @@
 """Starts an exchange on this machine, for a first try: a Redis and a sequencer, until Ctrl-C.
 
-    service/up [FOLDER] [--port N] [--program FILE] [--auction MARKET..]
+    service/up [FOLDER] [--port N] [--program FILE] [--sessions] [--followers N]
+               [--auction MARKET..]
 
 The log stands in FOLDER (ragvismo-log, if not given), so the next call with it goes on where this
 one ended. Redis listens on the loopback address alone, at port 6380 if not given, and writes each
 append to the disk before it tells of it. Its users are those of service/users, with their passwords
-in FOLDER. With --auction an auctioneer holds auctions of these markets, and a solver proposes. All
-end when this call does, whatever ended it; Redis holds the lock on FOLDER, so no other one writes
-there.
+in FOLDER. Sessions 1 to 9 are the operator's, and each other one owns the accounts that it opens;
+with --sessions any may move any account. N followers answer questions (1, if not given). With
+--auction an auctioneer holds auctions of these markets, and a solver proposes. All end when this
+call does, whatever ended it; Redis holds the lock on FOLDER, so no other one writes there.
 
 It ends when Redis ends, or when another of them does with a status at which a person has to look,
 which is told; or with
@@ -32,9 +34,10 @@ from typing import BinaryIO
 from ragvismo_service import files, users
 from ragvismo_service.books import FIRST_SOLVER
 from ragvismo_service.places import Place
+from ragvismo_service.program import Rule
 from ragvismo_service.statuses import NOT_AGAIN, BadUse, Ended, Status, table
 from ragvismo_service.store import Store
-from ragvismo_service.words import Words, market, password, status_of, tool
+from ragvismo_service.words import Words, market, number_of, password, status_of, tool
 
 SERVICE = pathlib.Path(__file__).resolve().parents[1]
 Call = list[str | pathlib.Path]
@@ -73,7 +76,7 @@ def redis_words(folder: pathlib.Path, **more: object) -> list[str]:
 def started(
     words: Sequence[str | pathlib.Path], handed_on: Sequence[BinaryIO] = ()
 ) -> subprocess.Popen[bytes]:
-    """A process that ends when this one does."""
+    """A process that ends when this one does, and not before by a Ctrl-C at a terminal."""
     parent, system = os.getpid(), ctypes.CDLL(None)
 
     def end_with_parent() -> None:
@@ -82,7 +85,10 @@ def started(
             os._exit(Status.NO_REDIS)
 
     return subprocess.Popen(
-        words, pass_fds=[it.fileno() for it in handed_on], preexec_fn=end_with_parent
+        words,
+        pass_fds=[it.fileno() for it in handed_on],
+        preexec_fn=end_with_parent,
+        start_new_session=True,
     )
 
 
@@ -106,23 +112,22 @@ def wait_for(server: subprocess.Popen[bytes], store: Store, folder: pathlib.Path
 def keep_up(server: subprocess.Popen[bytes], calls: list[Call], folder: pathlib.Path) -> int:
     """Starts each tool again whenever it ends, until that does not help, or Redis ends; what ends
     with all done stays so."""
-    running = {pathlib.Path(call[0]).name: started(call) for call in calls}
+    running = [started(call) for call in calls]
     try:
         while server.poll() is None:
-            for call, (name, process) in zip(calls, running.items()):
+            for at, (call, process) in enumerate(zip(calls, running)):
                 if process.poll() in NOT_AGAIN:
                     return process.returncode
                 if process.returncode:
-                    logging.info(
-                        "the %s ended with status %s and is started again", name, process.returncode
-                    )
+                    said = "the %s ended with status %s and is started again"
+                    logging.info(said, pathlib.Path(call[0]).name, process.returncode)
                     time.sleep(1)
-                    running[name] = started(call)
+                    running[at] = started(call)
             time.sleep(0.1)
     finally:
-        for process in running.values():
+        for process in running:
             process.terminate()
-        for process in running.values():
+        for process in running:
             process.wait()
     raise ended(server, folder)
 
@@ -135,7 +140,9 @@ def calls_of(given: argparse.Namespace, folder: pathlib.Path) -> list[Call]:
     def call(tool: str, user: str, *more: str | pathlib.Path) -> Call:
         return [SERVICE / tool, *words_of(user, given.port, folder), *patience, *more]
 
-    calls = [call("sequencer", "sequencer", *program)]
+    sessions = ["--sessions"] if given.rule is Rule.SESSIONS else []
+    calls = [call("sequencer", "sequencer", *program, *sessions)]
+    calls += given.followers * [call("follower", "follower", *program, *sessions)]
     if given.auction:
         calls.append(call("auctioneer", "auctioneer", *map(str, given.auction)))
         calls.append(call("solver", f"solver-{FIRST_SOLVER}", *program, str(FIRST_SOLVER)))
@@ -170,6 +177,9 @@ def run() -> int:
     )
     words.add_argument("--port", type=port, default="6380", metavar="N")
     words.add_program()
+    words.add_rule()
+    followers = number_of(0, 64, "number of followers")
+    words.add_argument("--followers", type=followers, default=1, metavar="N")
     words.add_argument("--auction", type=market, nargs="+", default=[], metavar="MARKET")
     given = words.parse_args()
     if not shutil.which("redis-server"):

@@ -16,9 +16,11 @@ from ragvismo_service.watchdog import alive
 
 Command = list[bytes]
 PAUSE = 0.1
-# What is told as None: that a key is not there, or that an entry's id is not above all others.
+# What is told as None: that a key is not there, that a group is there already, or that an entry's
+# id is not above all others.
 NOTHING = (
     "no such key",
+    "BUSYGROUP Consumer Group name already exists",
     "The ID specified in XADD is equal or smaller than the target stream top item",
 )
 # How long to wait until another Redis has what was written, in milliseconds, before all is asked
@@ -49,9 +51,9 @@ class Store:
     def ask(self, commands: Callable[[], list[Command]], kept: bool = False) -> list[Any]:
         """What Redis says to commands that are sent together; they are made and sent anew while it
         is away, for as long as patience lasts, so they must do no harm twice. What is said of a key
-        that is not there, or to an entry whose id is not above all others, is None. Where sentinels
-        watch and it is to be `kept`, another Redis has all that they read and wrote, and so it
-        outlasts the one that was asked.
+        that is not there, of a group that is there already, or to an entry whose id is not above
+        all others, is None. Where sentinels watch and it is to be `kept`, another Redis has all
+        that they read and wrote, and so it outlasts the one that was asked.
         """
         since: float | None = None
         while True:

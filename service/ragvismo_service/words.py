@@ -13,6 +13,7 @@ from collections.abc import Callable
 from typing import NoReturn
 
 from ragvismo_service.places import FORM, Place
+from ragvismo_service.program import Rule
 from ragvismo_service.statuses import BadUse, Ended, Status
 from ragvismo_service.store import Store
 
@@ -117,6 +118,16 @@ class Words(argparse.ArgumentParser):
         of_build = "the one that ./build makes, if not given"
         self.add_argument(
             "--program", type=runnable, default=str(PROGRAM), metavar="FILE", help=of_build
+        )
+
+    def add_rule(self) -> None:
+        self.add_argument(
+            "--sessions",
+            dest="rule",
+            action="store_const",
+            const=Rule.SESSIONS,
+            default=Rule.MEMBERS,
+            help="any session may move any account, as `serve sessions` answers",
         )
 
 

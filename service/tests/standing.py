@@ -3,6 +3,7 @@ program."""
 
 from __future__ import annotations
 
+import collections
 import json
 import os
 import pathlib
@@ -14,16 +15,17 @@ import tempfile
 import threading
 import time
 import unittest
-from collections.abc import Callable
-from typing import Any
+from collections.abc import Callable, Container
+from typing import Any, NamedTuple
 
 import redis
 
 HERE = pathlib.Path(__file__).resolve().parents[1]
 sys.path.insert(0, str(HERE))
 from client import Session
-from ragvismo_service.messages import Entry, malformed
+from ragvismo_service.messages import START_ID, Entry, malformed
 from ragvismo_service.places import Place
+from ragvismo_service.questions import Asked
 from ragvismo_service.statuses import Status
 from ragvismo_service.words import PROGRAM
 
@@ -62,11 +64,11 @@ ORDERS = "buy,1,{0},call,10,6,1,1", "sell,2,{0},call,5,8,1,1", "sell,2,{0},call,
 class Given:
     """What the call of the tests says."""
 
-    program, is_long = PROGRAM, False
+    program, is_long, rounds = PROGRAM, False, 0
 
 
-def knows_sessions(program: pathlib.Path) -> bool:
-    words = [str(program), "serve", "sessions"]
+def knows_members(program: pathlib.Path) -> bool:
+    words = [str(program), "serve", "members"]
     if not os.access(program, os.X_OK):
         return False
     return subprocess.run(words, stdin=subprocess.DEVNULL, capture_output=True).returncode == 0
@@ -87,7 +89,7 @@ class Service(unittest.TestCase):
         self.addCleanup(held.cleanup)
         self.folder = pathlib.Path(held.name)
         self.program = Given.program
-        self.is_real = knows_sessions(self.program)
+        self.is_real = knows_members(self.program)
         if not self.is_real:
             self.program = self.script("stand-in", STAND_IN)
         self.port, self.random = free_port(), random.Random(44)
@@ -195,7 +197,7 @@ class Service(unittest.TestCase):
         """The answers of one run of the program to all messages of the log."""
         entries = self.entries()
         lines = b"".join(entry.text + b"\n" for entry in entries if not entry.fault)
-        ran = subprocess.run([self.program, "serve", "sessions"], input=lines, capture_output=True)
+        ran = subprocess.run([self.program, "serve", "members"], input=lines, capture_output=True)
         answers = iter(ran.stdout.splitlines())
         return [
             (entry.id, malformed(entry.id, entry.fault) if entry.fault else next(answers))
@@ -205,9 +207,29 @@ class Service(unittest.TestCase):
     def all_answered(self) -> bool:
         return bool(self.redis.xlen("ragvismo:out") == self.redis.xlen("ragvismo:in"))
 
-    def check(self, traders: list[Trader]) -> None:
+    def replayed(self, asked: list[Question]) -> list[bytes]:
+        """What one run of the program answers to questions, each asked after the entry that its
+        answer was told with."""
+        after = collections.defaultdict[bytes, list[int]](list)
+        for at, question in enumerate(asked):
+            after[question.told.entry].append(at)
+        lines, kept = list[bytes](), dict[int, int]()
+        for id, text in [
+            (START_ID, b""),
+            *((it.id, it.text * (not it.fault)) for it in self.entries()),
+        ]:
+            lines += [text] if text else []
+            for at in after[id]:
+                kept[at] = len(lines)
+                lines.append(b"?%d,%b" % (asked[at].session, asked[at].body))
+        text = b"".join(line + b"\n" for line in lines)
+        ran = subprocess.run([self.program, "serve", "members"], input=text, capture_output=True)
+        answers = ran.stdout.splitlines()
+        return [answers[kept[at]] for at in range(len(asked))]
+
+    def check(self, traders: list[Trader], others: Container[int] = ()) -> None:
         """Each message counted once, each trader was told what stands in the log, and that is what
-        one run answers."""
+        one run answers. Sessions of others may have messages too."""
         self.until(self.all_answered)
         published = self.published()
         self.assertEqual(published, self.computed())
@@ -221,7 +243,8 @@ class Service(unittest.TestCase):
         for trader in traders:
             told = [first[trader.session.session, number] for number, _ in trader.told]
             self.assertEqual(told, [of for _, of in trader.told])
-        self.assertEqual(len(first), sum(len(trader.told) for trader in traders))
+        said = [session for session, _ in first if session not in others]
+        self.assertEqual(len(said), sum(len(trader.told) for trader in traders))
         self.assertEqual(len({reply["line"] for reply in first.values()}), len(first))
         self.assertRegex(self.tool("verify").stdout, f"^{len(published)} answers hold, to ")
 
@@ -245,6 +268,14 @@ class Service(unittest.TestCase):
         self.assertIn(said, ran.stderr)
 
 
+class Question(NamedTuple):
+    """What was asked for a session, and what was told to it."""
+
+    session: int
+    body: bytes
+    told: Asked
+
+
 class Trader(threading.Thread):
     """A client that also repeats messages and sends wrong numbers; it remembers what it was
     told."""
@@ -266,11 +297,15 @@ class Trader(threading.Thread):
         )
         return self.random.choice(bodies)
 
+    def pause(self) -> None:
+        """Waits before the next message, or not."""
+
     def run(self) -> None:
         try:
-            for number in range(1, self.messages + 1):
+            for number in range(len(self.told) + 1, self.messages + 1):
                 if self.is_stopped:
                     break
+                self.pause()
                 body = self.body()
                 self.told.append((number, self.session.ask(body)))
                 if self.random.random() < 0.1:

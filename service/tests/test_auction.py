@@ -76,14 +76,14 @@ class Mortal(Store):
 
 
 class Standing(Service):
-    """An exchange with two accounts, whose program knows phases."""
+    """An exchange whose operator has two accounts."""
 
     def setUp(self) -> None:
         super().setUp()
         if not self.is_real:
             self.skipTest("./build has not made the program")
         self.start_sequencer()
-        self.trader = self.session(12)
+        self.trader = self.session(3)
         for line in ("open,1", "open,2", "deposit,1,100000"):
             self.trader.ask(line)
 
@@ -340,7 +340,7 @@ class Kills(Standing):
                 self.assertEqual(self.replies("cleared")[-1]["surplus"], WHOLE[0])
                 self.assertEqual(len(self.books()), 2 * market)
                 self.assertTrue(self.is_open(market))
-        own = [it for it in self.entries() if not it.text.startswith(b"12,")]
+        own = [it for it in self.entries() if not it.text.startswith(b"3,")]
         self.assertEqual(len(own), 5 * market)
 
     def test_a_clear_that_is_refused(self) -> None:

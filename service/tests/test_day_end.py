@@ -8,6 +8,7 @@ import shlex
 import shutil
 import subprocess
 
+from client import Session
 from ragvismo_service import backups
 from ragvismo_service.chain import FIRST_HEAD
 from ragvismo_service.figures import Figures
@@ -103,7 +104,8 @@ class DayEnd(Service):
         self.assertEqual((ran.returncode, ran.stderr), (0, ""))
         steps = [line.partition(":")[0] for line in ran.stdout.splitlines()]
         self.assertEqual(steps[:5], ["journal", "verify", "audit", "backup", "carry-over"])
-        self.assertIn("open,1\ndeposit,1,", (self.folder / "journal/next.commands").read_text())
+        carried = (self.folder / "journal/next.messages").read_text()
+        self.assertIn("7,1,open,1\n1,1,deposit,1,", carried)
         [copy] = (self.folder / "copies").iterdir()
         self.goes_on(copy, session.number)
 
@@ -125,6 +127,49 @@ class DayEnd(Service):
                     self.assertEqual(has, int(reply["balance"]), answered.entry)
         self.assertGreater(told, 20)
         self.assertNotEqual(figures.house, 0)
+
+    def test_the_next_exchange(self) -> None:
+        """It begins with what the owners had, who own their accounts again; once, however often it
+        is begun with that."""
+        self.start_sequencer()
+        operator, owner, other = (self.session(number, 1) for number in (9, 12, 13))
+        for session, lines in (
+            (operator, ("market,1,1", "market,2,1", "open,1")),
+            (owner, ("open,7", "open,8")),
+            (other, ("open,3",)),
+            (operator, ("secure,1", "deposit,7,100", "deposit,8,2000000000", "deposit,3,5")),
+            (owner, ("buy,7,1,call,10,6,1,1", "withdraw,8,1")),
+            (operator, ("settle,1,10",)),
+        ):
+            for line in lines:
+                self.assertNotEqual(session.ask(line)["reply"], "refused", line)
+        ran = self.end_day()
+        self.assertEqual((ran.returncode, ran.stderr), (0, ""))
+        path = self.folder / "journal/next.messages"
+        self.at = ["--at", f"{self.port}/second"]
+        self.start_sequencer()
+        for _ in range(2):
+            ran = self.tool("begin", path)
+            self.assertEqual((ran.returncode, ran.stderr), (0, ""))
+        self.assertEqual(self.redis.xlen("second:in"), len(path.read_text().splitlines()))
+        place = self.place.of(f"{self.port}/second")
+        sessions = {number: Session(place, number) for number in (1, 9, 12, 13)}
+        for number, line, told in (
+            (1, "balance,7", "100"),
+            (1, "balance,8", "1999999999"),
+            (13, "withdraw,7,1", "NotAllowed"),
+            (12, "withdraw,7,1", "99"),
+            (13, "withdraw,3,5", "0"),
+            (9, "withdraw,1,1", "Funds"),
+            (1, "close,2", "closed"),
+        ):
+            reply = sessions[number].ask(line)
+            self.assertEqual(reply.get("reason", reply.get("balance", reply["reply"])), told, line)
+        self.assertEqual(self.tool("begin", path).returncode, 0)
+        path.write_text(path.read_text().replace("12,1,open,7", "12,1,open,9"))
+        self.tool_ends(Status.NO, "is another one there", "begin", path)
+        path.write_text("12,1\n")
+        self.tool_ends(Status.BAD_USE, "is no message", "begin", path)
 
     def goes_on(self, copy: pathlib.Path, number: int) -> None:
         """An exchange that is started from a copy answers the next message."""

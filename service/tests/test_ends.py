@@ -71,7 +71,7 @@ class Ends(Service):
         self.assertEqual(
             (ran.returncode, ran.stdout.splitlines()[0]), (1, "0 answers are the same"), ran.stderr
         )
-        same = self.script("same", f"#!/bin/sh\nexec {self.program} serve sessions\n")
+        same = self.script("same", f'#!/bin/sh\nexec {self.program} "$@"\n')
         ran = self.tool("rehearse", same, "--switch")
         handed_over = "1 answers are the same\nthe exchange is answered by this program now\n"
         self.assertEqual((ran.returncode, ran.stdout), (0, handed_over), ran.stderr)
@@ -88,7 +88,7 @@ class Ends(Service):
         self.session(7).ask("open,1")
         waits = self.script(
             "waits",
-            f"#!/bin/sh\ntouch {self.folder}/asked\nsleep 2\nexec {self.program} serve sessions\n",
+            f'#!/bin/sh\ntouch {self.folder}/asked\nsleep 2\nexec {self.program} "$@"\n',
         )
         words = [str(HERE / "rehearse"), str(waits), "--at", str(self.port), "--switch"]
         with subprocess.Popen(words, stdout=subprocess.PIPE, text=True) as rehearsal:
@@ -110,7 +110,7 @@ class Ends(Service):
             "x",
             self.program.read_text()
             if not self.is_real
-            else f"#!/bin/sh\nexec {self.program} serve sessions\n",
+            else f'#!/bin/sh\nexec {self.program} "$@"\n',
         )
         for number, name in enumerate(("x", "./x"), 1):
             command = [str(HERE / "sequencer"), "--at", f"{self.port}/{number}", "--program", name]
@@ -261,16 +261,17 @@ class Ends(Service):
 
     def test_statuses(self) -> None:
         """The units and the documents know the statuses."""
-        unit = (HERE / "systemd/ragvismo-sequencer@.service").read_text()
-        [told] = [
-            line.partition("=")[2]
-            for line in unit.splitlines()
-            if line.startswith("RestartPreventExitStatus")
-        ]
-        self.assertEqual({int(it) for it in told.split()}, set(NOT_AGAIN))
+        for tool in ("sequencer", "follower"):
+            unit = (HERE / f"systemd/ragvismo-{tool}@.service").read_text()
+            [told] = [
+                line.partition("=")[2]
+                for line in unit.splitlines()
+                if line.startswith("RestartPreventExitStatus")
+            ]
+            self.assertEqual({int(it) for it in told.split()}, set(NOT_AGAIN))
         document = (HERE.parent / "docs/OPERATING.md").read_text()
         known = {
             int(number): bold for bold, number in re.findall(r"(?m)^- (\**)status (\d+)", document)
         }
-        self.assertEqual(set(known), set(Status) - {Status.DONE, Status.NO})
+        self.assertEqual(set(known), set(Status) - {Status.DONE})
         self.assertEqual({number for number, bold in known.items() if bold}, set(NOT_AGAIN))

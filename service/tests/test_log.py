@@ -20,7 +20,13 @@ from ragvismo_service.verifying import check, parts
 from tests.standing import HERE, Service
 
 IN, OUT = "ragvismo:in", "ragvismo:out"
-READERS = (("verify",), ("watch", "--once"), ("journal", "journal"), ("rehearse", ""))
+READERS = (
+    ("verify",),
+    ("watch", "--once"),
+    ("journal", "journal"),
+    ("rehearse", ""),
+    ("begin", "messages"),
+)
 
 
 class Sums(unittest.TestCase):
@@ -80,11 +86,16 @@ class Log(Service):
 
     def readers_end(self, status: Status, said: str) -> None:
         """Each reader of the log ends so, and no file is written."""
+        messages = self.folder / "messages"
+        messages.write_text("7,9,open,9\n")
         for name, *words in READERS:
-            given = {"journal": self.folder / "journal", "": self.program}
+            given = {"journal": self.folder / "journal", "": self.program, "messages": messages}
             with self.subTest(name):
                 self.tool_ends(status, said, name, *(given.get(word, word) for word in words))
         self.assertFalse((self.folder / "journal/segments").exists())
+        ran = self.tool("follower", "--program", self.program)
+        self.assertEqual(ran.returncode, status, ran.stderr)
+        self.assertRegex(ran.stderr.splitlines()[-1], f"^follower: .*{said}")
 
     def cut(self, *command: object) -> None:
         """Entries are taken out while a sequencer runs, which ends, as one that is started does,

@@ -135,6 +135,7 @@ class Metrics(Service):
         session.answer(9, "balance,0")
         self.append(session="7,7", number=1, body="x")
         self.until(self.all_answered)
+        self.redis.xadd("ragvismo:questions", {"session": 7, "body": "balance,1"})
         self.start_metrics()
         self.until(lambda: self.told().get("ragvismo_entries") == 3)
         session.answer(1, "open,1")
@@ -143,6 +144,8 @@ class Metrics(Service):
         for name, value in (
             ("ragvismo_lag_entries", 0),
             ("ragvismo_sequencers", 1),
+            ("ragvismo_followers", 0),
+            ("ragvismo_questions", 1),
             ('ragvismo_refusals_total{reason="Form"}', 1),
             ('ragvismo_refusals_total{reason="Ahead"}', 1),
             ('ragvismo_limit_used_ratio{limit="sessions"}', 1 / 10_000),

@@ -18,6 +18,7 @@ from ragvismo_service import backups, users
 from ragvismo_service.chain import FIRST_HEAD
 from ragvismo_service.connecting import pool_at
 from ragvismo_service.places import Place
+from ragvismo_service.questions import Asker
 from ragvismo_service.statuses import BadUse, Status
 from ragvismo_service.store import Store
 from ragvismo_service.words import password
@@ -150,7 +151,7 @@ class Users(Service):
         self.ran("journal", "journal", by_tls, self.folder / "journal")
         self.assertEqual(self.copied("journal", by_tls), 1)
         self.assertIn("1 sequencers; 1 ", self.ran("watch", "watch", by_tls, "--once"))
-        same = self.script("same", f"#!/bin/sh\nexec {self.program} serve sessions\n")
+        same = self.script("same", f'#!/bin/sh\nexec {self.program} "$@"\n')
         self.assertIn("1 answers are the same\n", self.ran("rehearse", "journal", by_port, same))
         self.assertIn(
             "answered by this program now",
@@ -205,6 +206,14 @@ class Users(Service):
                 ("SET", "ragvismo:program", "1"),
                 ("GETRANGE", "ragvismo:proposals/1000000", "0", "1"),
             ),
+            "follower": (
+                add_in,
+                add_out,
+                script,
+                ("SET", "ragvismo:program", "1"),
+                ("XDEL", "ragvismo:in", "1-1"),
+                ("XRANGE", "ragvismo:told", "-", "+"),
+            ),
             "replica": (add_in, ("XRANGE", "ragvismo:in", "-", "+"), ("SHUTDOWN",)),
             "sentinel": (add_in, ("XRANGE", "ragvismo:in", "-", "+"), ("FLUSHALL",)),
             "default": (("PING",),),
@@ -239,7 +248,7 @@ class Users(Service):
             self.sequencers.append(
                 subprocess.Popen(words, stdout=out, stderr=subprocess.PIPE, text=True)
             )
-        session = Session(self.as_user("gateway"), 12, 1)
+        session = Session(self.as_user("gateway"), 3, 1)
         for line in ("open,1", "open,2", "deposit,1,1000", "market,1,1"):
             session.ask(line)
         cleared = list[bytes]()
@@ -252,6 +261,17 @@ class Users(Service):
                 time.sleep(0.1)
                 cleared = [it for _, it in self.published() if b'"reply":"cleared"' in it]
             self.assertLess(many, 20)
+
+    def test_questions(self) -> None:
+        """A follower and one who asks do as these users what they must."""
+        if not self.is_real:
+            self.skipTest("./build has not made the program")
+        for tool in ("sequencer", "follower"):
+            at = self.words(tool, f"unix://USER@{self.socket}")
+            words = [str(HERE / tool), *at, "--program", str(self.program)]
+            self.sequencers.append(subprocess.Popen(words, stderr=subprocess.PIPE, text=True))
+        asker = Asker(Store(self.as_user("gateway"), 60, "test"))
+        self.assertIn(b'"balance":"0"', asker.ask(1, b"balance,0", 120).answer)
 
     def test_who_is_none_of_them(self) -> None:
         """A wrong password ends a tool at once."""

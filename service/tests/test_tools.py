@@ -58,7 +58,7 @@ class Tools(Service):
         """What the journal keeps of the messages, given to the program, writes what it keeps of the
         replies."""
         program = shlex.quote(str(self.program))
-        given = f"sed -n 's/^[0-9-]*,//p' {folder}/*.messages | {program} serve sessions"
+        given = f"sed -n 's/^[0-9-]*,//p' {folder}/*.messages | {program} serve members"
         ran = subprocess.run(
             given, shell=True, env={**os.environ, "LC_ALL": "C"}, capture_output=True
         )
@@ -311,10 +311,26 @@ class Up(unittest.TestCase):
             up.terminate()
             self.assertEqual(up.wait(), 128 + signal.SIGTERM)
 
+    def test_who_may_move_an_account(self) -> None:
+        """Its owner; with --sessions anybody; and an exchange keeps to the rule that it began
+        with."""
+        if not self.held.is_real:
+            self.skipTest("./build has not made the program")
+        for more, reason in (((), "NotAllowed"), (("--sessions",), "Funds")):
+            self.folder = self.held.folder / reason
+            up = self.start(*more)
+            self.client("open,1\n")
+            self.client_words[self.client_words.index("1")] = "12"
+            self.assertEqual(self.client("withdraw,1,1\n")["reason"], reason)
+            up.terminate()
+            up.wait()
+        self.assertEqual(self.start().wait(120), Status.OTHER_PROGRAM)
+
     def test_an_auctioneer_and_a_solver(self) -> None:
         """They are started where auctions are asked for, and end with the call."""
         up = self.start("--auction", "1", "2")
-        wanted = {f"ragvismo-{tool}/ragvismo" for tool in ("sequencer", "auctioneer", "solver")}
+        tools = "sequencer", "follower", "auctioneer", "solver"
+        wanted = {f"ragvismo-{tool}/ragvismo" for tool in tools}
         names = set[str]()
         while not wanted <= names:
             self.assertIsNone(up.poll())
@@ -348,7 +364,7 @@ class Up(unittest.TestCase):
         self.assertEqual((ran.returncode, ran.stdout), (Status.NO_REDIS, ""), ran.stderr)
 
     def test_a_log_that_was_cut(self) -> None:
-        up = self.start()
+        up = self.start("--followers", "0")
         self.client("open,1\n")
         self.redis("gateway").xadd("ragvismo:in", {"x": 1}, maxlen=1, approximate=False)
         self.assertEqual(up.wait(30), Status.CUT)
