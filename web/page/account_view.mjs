@@ -3,6 +3,7 @@ import {bundleWords} from "./words.mjs";
 import {element, tableElement} from "./tables.mjs";
 import {lineForm, numberInput} from "./forms.mjs";
 import {positionOf} from "./stakes.mjs";
+import {refusalWords} from "./refusal_words.mjs";
 
 /** @typedef {import("./gateway.mjs").Told} Told */
 /** @typedef {import("./trading_state.mjs").TradingState} TradingState */
@@ -13,11 +14,11 @@ const input = (value = "") => numberInput(value, unseen, "");
 
 /** A reply in a few words.
  * @param {Told} reply */
-function replyWords({reply, reason, ...more}) {
+function replyWords({reply, ...more}) {
     if (reply === "refused") {
-        return `refused: ${reason}`;
+        return refusalWords(more);
     }
-    const told = ["order", "account", "balance", "batch", "mark", "surplus", "market"]
+    const told = ["order", "account", "balance", "need", "batch", "mark", "surplus", "market"]
         .filter(key => more[key] !== undefined).map(key => `${key} ${more[key]}`);
     return `${reply}: ${told.join(", ")}`;
 }
@@ -36,18 +37,23 @@ export class AccountView {
 
     /** @param {TradingState} state */
     show(state) {
-        const balances = state.balances.map(each =>
-            [`${each.account}`, `${each.balance}`, `${each.reserved}`]);
+        const balances = state.balances.map((each, at) => {
+            const {need, secured} = state.needs[at];
+            return [`${each.account}`, `${each.balance}`, `${each.reserved}`, `${need}`,
+                secured ? "yes" : "no"];
+        });
         const positions = state.positions.map(each =>
             [`${each.account}`, `${each.batch}`, `${each.order}`, `${each.side}`,
                 bundleWords(positionOf(each)), `${each.fill}`]);
         const history = state.history.map(each =>
             [`${each.at}`, each.line.slice(0, 200), replyWords(each.reply)]);
         this.balances.replaceChildren(tableElement({caption: "Accounts, in ticks",
-            head: ["account", "balance", "reserved for buys"], rows: balances}));
-        this.positions.replaceChildren(tableElement({
-            caption: `Positions in market ${state.market}`,
-            head: ["account", "batch", "order", "side", "bundle", "fill"], rows: positions}));
+            head: ["account", "balance", "reserved for buys", "need", "secured"],
+            rows: balances}));
+        this.positions.replaceChildren(positions.length === 0
+            ? element("p", {}, `In market ${state.market} you hold nothing.`)
+            : tableElement({caption: `Positions in market ${state.market}`,
+                head: ["account", "batch", "order", "side", "bundle", "fill"], rows: positions}));
         this.history.replaceChildren(tableElement({caption: "My last lines, the newest first",
             head: ["place", "line", "reply"], rows: history}));
     }
@@ -76,6 +82,8 @@ export class OperatorView {
     /** @param {HTMLElement} place @param {(line: string) => void} onLine */
     constructor(place, onLine) {
         this.members = element("div", {id: "members"});
+        this.solvers = element("div", {id: "solvers"});
+        this.lag = element("p", {id: "lag"});
         place.append(
             lineForm("List a market", "market",
                 [["Market", input()], ["Underlyings", input("1")]], onLine),
@@ -86,7 +94,7 @@ export class OperatorView {
                 onLine),
             lineForm("Settle for good", "settle",
                 [["Market", input()], ["Prices, with commas", input()]], onLine),
-            this.members);
+            this.lag, this.solvers, this.members);
     }
 
     /** @param {TradingState} state */
@@ -95,5 +103,13 @@ export class OperatorView {
             [each.name, each.role, each.accounts.join(", ")]);
         this.members.replaceChildren(tableElement({caption: "Members",
             head: ["name", "role", "accounts"], rows}));
+        const {entries, proposals, waiting} = state.service;
+        this.lag.textContent = `Messages: ${entries}. Of these ${waiting} wait for an answer.`;
+        const proposed = proposals.map((/** @type {Told} */ each) => [`${each.session}`,
+            `${each.market}`, `${each.surplus}`, `${each.bound}`, `${each.at}`]);
+        this.solvers.replaceChildren(proposed.length === 0
+            ? element("p", {}, "No solver has proposed anything.")
+            : tableElement({caption: "What each solver proposed last",
+                head: ["session", "market", "surplus", "bound", "place"], rows: proposed}));
     }
 }

@@ -16,7 +16,10 @@ import {at, demand} from "./kinds.mjs";
 /** @typedef {{state: State, weight: Fraction}} Point */
 /** @typedef {{at: number, by: Fraction}} Multiplier of the leg at a place */
 /** @typedef {{split: number} | {leaf: Multiplier[]}} Node */
-/** @typedef {"line" | "match" | Node[]} Cover */
+/** @typedef {{of: number, by: Fraction}} ClassMultiplier */
+/** @typedef {{split: number} | {full: number[], leaf: ClassMultiplier[]}
+ *     | {bound: number, plus: ClassMultiplier[], minus: ClassMultiplier[]}} CellNode */
+/** @typedef {"line" | "match" | Node[] | {cells: CellNode[]}} Cover */
 /** @typedef {{cover: Cover, measure: Point[]}} Certificate */
 /** @typedef {{batch: bigint, line: bigint, market: bigint, mark: string, underlyings: number,
  *     orders: Order[], fills: Fraction[], liability: Fraction, surplus: Fraction, units: bigint,
@@ -83,15 +86,40 @@ const nodeOf = node => node.has("split")
     ? {split: Number(wholeAt(node, "split"))}
     : {leaf: objectsAt(node, "leaf", multiplierOf)};
 
-/** @param {JsonObject} certificate @returns {Certificate} */
-function certificateOf(certificate) {
-    const cover = certificate.get("cover");
-    return {
-        cover: cover === "line" || cover === "match"
-            ? cover : objectsAt(certificate, "cover", nodeOf),
-        measure: objectsAt(certificate, "measure", pointOf),
-    };
+/** Classes, each with its multiplier behind it.
+ * @param {JsonObject} node @param {string} key
+ * @returns {ClassMultiplier[]} */
+const classesAt = (node, key) => listAt(node, key).flatMap((of, place, list) => place % 2 === 1 ? []
+    : [{of: Number(wholeOf(of)), by: fractionOf(`${list[place + 1]}`)}]);
+
+/** @param {JsonObject} node
+ * @returns {CellNode} */
+function cellNodeOf(node) {
+    if (node.has("split")) {
+        return {split: Number(wholeAt(node, "split"))};
+    }
+    if (node.has("leaf")) {
+        const full = node.has("full") ? listAt(node, "full") : [];
+        return {full: full.map(of => Number(wholeOf(of))), leaf: classesAt(node, "leaf")};
+    }
+    const [plus, minus] = [classesAt(node, "plus"), classesAt(node, "minus")];
+    return {bound: Number(wholeAt(node, "bound")), plus, minus};
 }
+
+/** @param {JsonObject} certificate
+ * @returns {Cover} */
+function coverOf(certificate) {
+    const cover = at(certificate, "cover");
+    if (cover instanceof Map) {
+        return {cells: objectsAt(cover, "cells", cellNodeOf)};
+    }
+    return cover === "line" || cover === "match" ? cover : objectsAt(certificate, "cover", nodeOf);
+}
+
+/** @param {JsonObject} certificate
+ * @returns {Certificate} */
+const certificateOf = certificate =>
+    ({cover: coverOf(certificate), measure: objectsAt(certificate, "measure", pointOf)});
 
 /** The batch of a cleared line.
  * @param {JsonObject} reply @returns {Batch} */

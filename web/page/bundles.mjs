@@ -7,6 +7,8 @@ import {bundleWords} from "./words.mjs";
 /** @typedef {{account: string, market: string, side: string, price: string, quantity: string,
  *     legs: TicketLeg[]}} Ticket */
 
+/** No market is settled at a greater price. */
+export const FARTHEST = 10n ** 9n;
 const WHOLE = /^-?(?:0|[1-9][0-9]{0,12})$/;
 
 /** Counts, kinds and strikes beside one another.
@@ -20,11 +22,14 @@ export const TEMPLATES = {
     "bundle of four": [[1, "call", 0], [-1, "call", 2], [-1, "call", 4], [1, "call", 6]],
 };
 
-/** The legs of a template, of which the strike is in the middle.
+/** The legs of a template, of which the strike is in the middle, and the greater the wider.
  * @param {string} name @param {number} strike @param {string[]} weights
  * @returns {TicketLeg[]} */
-export const legsFor = (name, strike, weights) => TEMPLATES[name].map(([count, kind, step]) =>
-    ({count: `${count}`, kind, strike: `${strike + step}`, weights: weights.slice()}));
+export function legsFor(name, strike, weights) {
+    const wide = Math.max(1, Math.floor(strike / 20));
+    return TEMPLATES[name].map(([count, kind, step]) => ({count: `${count}`, kind,
+        strike: `${strike + step * wide}`, weights: weights.slice()}));
+}
 
 /** What is wrong with a ticket, in a sentence; nothing where it can be sent.
  * @param {Ticket} ticket */

@@ -1,6 +1,7 @@
 // The covers: how a certificate shows that the net is within the liability at every state. One
 // table has all kinds; each has its word, how its text is told, on how many underlyings it may
 // stand, and the sums that decide.
+import {areCells, cellsHold} from "./cells_cover.mjs";
 import {ZERO, isAboveZero, whole} from "./fractions.mjs";
 import {bendOf, net, signed} from "./batch.mjs";
 import {bundleWords, stateText, stateWords} from "./words.mjs";
@@ -13,7 +14,8 @@ import {treeHolds} from "./tree_cover.mjs";
 /** @typedef {import("./batch.mjs").State} State */
 /** @typedef {import("./fractions.mjs").Sums} Sums */
 /** @typedef {import("./steps.mjs").Shown} Shown */
-/** @typedef {{word: string, is: (cover: Cover) => boolean, fits: (underlyings: number) => boolean,
+/** @typedef {{word: string, is: (cover: Cover) => boolean,
+ *     fits: (underlyings: number, batch: Batch, cover: Cover) => boolean,
  *     sums: (sums: Sums, batch: Batch) => Shown}} CoverKind */
 
 /** The states that decide all prices of one underlying: 0, each bend, and the slope beyond.
@@ -84,6 +86,13 @@ export const COVERS = [
     {word: "line", is: cover => cover === "line", fits: count => count === 1, sums: lineHolds},
     {word: "match", is: cover => cover === "match", fits: () => true, sums: matchHolds},
     {word: "tree", is: Array.isArray, fits: count => count > 1, sums: treeHolds},
+    {
+        word: "cells",
+        is: cover => typeof cover === "object" && "cells" in cover,
+        fits: (_, batch, cover) =>
+            typeof cover === "object" && "cells" in cover && areCells(batch, cover.cells),
+        sums: cellsHold,
+    },
 ];
 
 /** The kind of a cover.

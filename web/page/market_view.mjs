@@ -1,6 +1,7 @@
 // The market: its live orders, one's own marked, and what one holds and ordered over the price.
 import {bundleWords} from "./words.mjs";
 import {button, choice, field, setOptions} from "./forms.mjs";
+import {ProbeView} from "./probe_view.mjs";
 import {element, tableElement} from "./tables.mjs";
 import {orderOf, positionOf} from "./stakes.mjs";
 import {WorthPicture} from "./worth_picture.mjs";
@@ -30,6 +31,21 @@ function phaseWords(market) {
             : `Settled at ${market.prices.join(", ")}, for good.`;
 }
 
+/** What comes next, and when.
+ * @param {TradingState} state */
+function clockWords(state) {
+    const market = state.chosen();
+    if (market === undefined || market.next === null || market.phase === "settled") {
+        return "";
+    }
+    const seconds = Math.ceil((market.next.at - Date.now() - state.ahead) / 1000);
+    if (seconds <= 0) {
+        return `Next: ${market.next.does}, as soon as there are orders.`;
+    }
+    const [minutes, rest] = [Math.floor(seconds / 60), `${seconds % 60}`.padStart(2, "0")];
+    return `Next: ${market.next.does} in ${minutes}:${rest}`;
+}
+
 export class MarketView {
     /** @param {HTMLElement} place @param {() => void} onMarket
      * @param {(line: string) => void} onLine */
@@ -37,14 +53,24 @@ export class MarketView {
         this.onLine = onLine;
         this.select = choice([], onMarket);
         this.phase = element("p", {class: "says", id: "phase"});
+        this.clock = element("p", {id: "clock"});
+        /** @type {TradingState | null} */
+        this.state = null;
+        setInterval(() => this.tick(), 1000);
         this.book = element("div", {id: "book"});
         this.shown = "";
         this.picture = new WorthPicture("What I hold and ordered is worth");
+        this.probe = new ProbeView();
         const stakes = element("div", {}, element("h3", {}, "What I hold and ordered"),
             this.picture.place);
         place.append(element("div", {class: "fields"}, field("Market", this.select)), this.phase,
-            element("div", {class: "two"},
-                element("div", {}, element("h3", {}, "Live orders"), this.book), stakes));
+            this.clock, element("div", {class: "two wide"},
+                element("div", {}, element("h3", {}, "Live orders"), this.book), stakes,
+                this.probe.place));
+    }
+
+    tick() {
+        this.clock.textContent = this.state === null ? "" : clockWords(this.state);
     }
 
     /** @param {TradingState} state */
@@ -52,6 +78,8 @@ export class MarketView {
         setOptions(this.select, state.markets.map(optionOf));
         this.select.value = state.market;
         this.phase.textContent = phaseWords(state.chosen());
+        this.state = state;
+        this.tick();
         this.showBook(state);
         const own = state.orders.filter(order => state.accounts.includes(order.account));
         this.picture.show([
@@ -59,6 +87,7 @@ export class MarketView {
             {told: "with my orders, all filled", kind: "ordered",
                 stakes: [...state.positions.map(positionOf), ...own.map(orderOf)]},
         ], state.count());
+        this.probe.show(state);
     }
 
     /** The book stays where nothing in it is new, and so does the button that has the focus.

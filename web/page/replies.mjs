@@ -76,15 +76,65 @@ const BUNDLES = list(BUNDLE, areFew);
 
 const LEAF = members({leaf: list(members({at: PLACE, by: fraction}))});
 const SPLIT = members({split: PLACE});
-const TREE = list(picked(node => node instanceof Map && node.has("leaf") ? LEAF : SPLIT));
+const NODE = picked(node => node instanceof Map && node.has("leaf") ? LEAF : SPLIT);
+const [TREE, SHORT_TREE] = [list(NODE), list(NODE, nodes => nodes.length <= 20000)];
 const STATE = between(2, 9, list(amount(0n), entries => entries.some(entry => entry !== "0")));
-const MEASURE = list(members({state: STATE, weight: fraction}));
+const POINT = members({state: STATE, weight: fraction});
+const [MEASURE, SHORT_MEASURE] = [list(POINT), list(POINT, points => points.length <= 1024)];
 
-/** With a cover that one of these words tells, or a tree.
- * @param {string[]} words */
-const certificate = (...words) => members({
-    cover: picked(cover => typeof cover === "string" ? word(...words) : TREE),
+/** The classes of a list rise, be they all of it or every second.
+ * @param {number} step
+ * @returns {(items: Json[]) => boolean} */
+const classesRise = step => items => items.every((item, place) => place < step || place % step !== 0
+    || wholeOf(items[place - step]) < wholeOf(item));
+
+/** @type {Kind} */
+const PAIRS = (value, later) => {
+    demand(Array.isArray(value) && value.length % 2 === 0, "Shape", "a class has no multiplier");
+    value.forEach((item, place) => (place % 2 === 0 ? PLACE : fraction)(item, later));
+    later.ranges.push(() => classesRise(2)(value));
+};
+const FULL = list(PLACE, classes => classes.length > 0 && classesRise(1)(classes));
+const CELL_LEAF = members({leaf: PAIRS});
+const FULL_LEAF = members({full: FULL, leaf: PAIRS});
+const BOUND = members({bound: PLACE, minus: PAIRS, plus: PAIRS});
+
+/** @param {Json} node */
+function cellKind(node) {
+    if (node instanceof Map && node.has("leaf")) {
+        return node.has("full") ? FULL_LEAF : CELL_LEAF;
+    }
+    return node instanceof Map && node.has("bound") ? BOUND : SPLIT;
+}
+
+/** How many classes a node lists.
+ * @param {Json} node */
+function listed(node) {
+    const length = (/** @type {string} */ key) => {
+        const items = node instanceof Map ? node.get(key) : null;
+        return Array.isArray(items) ? items.length : 0;
+    };
+    return length("full") + (length("leaf") + length("minus") + length("plus")) / 2;
+}
+
+const CELLS = members({cells: list(picked(cellKind), nodes => nodes.length <= 100000
+    && nodes.reduce((sum, node) => sum + listed(node), 0) <= 1000000)});
+
+/** Of a batch marked optimal: the cover is told by a word, or is a tree. */
+const OPTIMAL_CERTIFICATE = members({
+    cover: picked(cover => typeof cover === "string" ? word("line") : TREE),
     measure: MEASURE,
+});
+
+/** Of a batch marked bounded: it may be told by another word, or have cells, and is not long. */
+const BOUNDED_CERTIFICATE = members({
+    cover: picked(cover => {
+        if (typeof cover === "string") {
+            return word("line", "match");
+        }
+        return cover instanceof Map ? CELLS : SHORT_TREE;
+    }),
+    measure: SHORT_MEASURE,
 });
 
 const SOLVED = {batch: BATCH, fills: list(fraction), liability: fraction, market: MARKET,
@@ -92,7 +142,7 @@ const SOLVED = {batch: BATCH, fills: list(fraction), liability: fraction, market
 const WIDE = members(
     {left: fraction, operator: word("add", "mul", "div", "whole"), right: fraction});
 /** @type {{[mark: string]: Keys}} */
-const MARKS = {optimal: {certificate: certificate("line")}, wide: {wide: WIDE}, budget: {}};
+const MARKS = {optimal: {certificate: OPTIMAL_CERTIFICATE}, wide: {wide: WIDE}, budget: {}};
 
 /** A cleared line of a run, by mark and version.
  * @param {JsonObject} reply
@@ -106,7 +156,7 @@ function cleared(reply) {
 }
 
 /** @type {Keys} */
-const BOUNDED = {...SOLVED, bound: fraction, certificate: certificate("line", "match"),
+const BOUNDED = {...SOLVED, bound: fraction, certificate: BOUNDED_CERTIFICATE,
     mark: word("bounded"), orders: BUNDLES, run: word("wide", "budget"), version: just(3)};
 
 // ---- refusals

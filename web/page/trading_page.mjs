@@ -6,6 +6,7 @@ import {MarketView} from "./market_view.mjs";
 import {TicketView} from "./ticket_view.mjs";
 import {button} from "./forms.mjs";
 import {element} from "./tables.mjs";
+import {refusalWords} from "./refusal_words.mjs";
 
 /** @typedef {import("./gateway.mjs").Told} Told */
 
@@ -97,7 +98,7 @@ class Trading {
         try {
             const reply = await send(this.state.name, kept || keep(this.state.name, line), wait);
             const isRefused = reply.reply === "refused";
-            const told = isRefused ? `refused, ${reply.reason}` : reply.reply;
+            const told = isRefused ? refusalWords(reply) : reply.reply;
             this.tell(isRefused ? "no" : "yes", `${isRefused ? "✗" : "✓"} ${line}: ${told}.`);
         } catch (fault) {
             this.tell("no", `✗ ${line}: ${fault instanceof Error ? fault.message : fault}`);
@@ -150,6 +151,8 @@ function begin(me) {
         showView(names, true);
         trading.views.forEach(view => view.show(trading.state));
     });
+    window.addEventListener("resize", () =>
+        trading.views.forEach(view => view.show(trading.state)));
     showView(names, false);
     trading.want({isPublic: true, isOwn: true});
     const kept = keptLine(me.name);

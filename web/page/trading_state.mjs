@@ -18,12 +18,20 @@ export class TradingState {
         this.batches = [];
         /** @type {Told[]} the balance of each account */
         this.balances = [];
+        /** @type {Told[]} the need of each account */
+        this.needs = [];
         /** @type {Told[]} the positions in that market, of all accounts */
         this.positions = [];
         /** @type {Told[]} */
         this.history = [];
         /** @type {Told[]} */
         this.members = [];
+        /** @type {Told} how the service is, for the operator */
+        this.service = {entries: 0, proposals: [], waiting: 0};
+        /** The place in the log up to which the live orders are told. */
+        this.at = -1;
+        /** By how much the clock of the gateway is ahead of this one, in milliseconds. */
+        this.ahead = 0;
         this.market = "";
         this.isKnown = false;
     }
@@ -49,6 +57,13 @@ export class TradingState {
         return market === undefined ? "" : String(market.phase);
     }
 
+    /** A strike in the middle of those of the live orders. */
+    middle() {
+        const strikes = this.orders.flatMap(order => order.legs)
+            .map((/** @type {Told} */ leg) => Math.abs(leg.form[0])).sort((a, b) => a - b);
+        return strikes.length === 0 ? 10 : strikes[Math.floor(strikes.length / 2)];
+    }
+
     /** How many underlyings it has. */
     count() {
         const market = this.chosen();
@@ -57,15 +72,18 @@ export class TradingState {
 
     /** What all may see. Of a market that is not looked at any more nothing is taken. */
     async loadPublic() {
-        this.markets = (await get("markets")).markets;
+        const told = await get("markets");
+        this.markets = told.markets;
+        this.ahead = told.now - Date.now();
         if (this.chosen() === undefined && this.markets.length > 0) {
             this.market = `${this.markets[0].market}`;
         }
         const {market} = this;
         const isThere = this.chosen() !== undefined;
-        const orders = isThere ? (await get(`book/${market}`)).orders : [];
+        const book = isThere ? await get(`book/${market}`) : {at: -1, orders: []};
         if (market === this.market) {
-            this.orders = orders;
+            this.orders = book.orders;
+            this.at = book.at;
             this.isKnown = true;
         }
         this.batches = (await get("batches")).batches.slice().reverse();
@@ -79,9 +97,12 @@ export class TradingState {
         /** @type {Told[]} */
         const balances = [];
         /** @type {Told[]} */
+        const needs = [];
+        /** @type {Told[]} */
         const positions = [];
         for (const account of this.accounts) {
             balances.push(await get(`balance/${account}`));
+            needs.push(await get(`need/${account}`));
             if (listed !== undefined && listed.prices.length === 0) {
                 const told = await get(`positions/${account}/${market}`);
                 positions.push(...told.positions.map((/** @type {Told} */ each) =>
@@ -89,20 +110,25 @@ export class TradingState {
             }
         }
         this.balances = balances;
+        this.needs = needs;
         this.positions = market === this.market ? positions : [];
         this.history = (await get("history")).lines.filter((/** @type {Told} */ each) =>
             !["balance", "positions"].includes(each.reply.reply)).reverse();
-        this.members = this.isOperator ? (await get("members")).members : [];
+        if (this.isOperator) {
+            this.members = (await get("members")).members;
+            this.service = await get("service");
+        }
     }
 }
 
-const OWN = ["placed", "cancelled", "opened", "deposited", "withdrawn"];
+const OWN = ["placed", "cancelled", "opened", "deposited", "withdrawn", "secured"];
+const MOVING = ["cleared", "settled", "deposited", "closed", "gap"];
 
 /** What is to be asked anew after events: all's, and one's own.
  * @param {Told[]} events */
 export function asksFor(events) {
     const answers = events.filter(each => each.event === "answer");
     const isOwn = answers.some(each => OWN.includes(each.reply.reply))
-        || events.some(each => ["cleared", "settled", "deposited", "gap"].includes(each.event));
+        || events.some(each => MOVING.includes(each.event));
     return {isPublic: events.length > answers.length, isOwn};
 }

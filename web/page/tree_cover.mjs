@@ -150,7 +150,7 @@ class Walk {
  * @returns {Shown} */
 export function treeHolds(sums, batch) {
     const cover = batch.certificate === null ? [] : batch.certificate.cover;
-    const walk = new Walk(sums, batch, typeof cover === "string" ? [] : cover);
+    const walk = new Walk(sums, batch, Array.isArray(cover) ? cover : []);
     const fault = walk.whole();
     const entries = Array.from({length: batch.underlyings}, (_, at) => `entry ${at + 1}`);
     const table = tableOf("The sums of each leaf, of which none may be above 0",

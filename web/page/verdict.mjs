@@ -20,7 +20,8 @@ const MOST_WALKED = 2000000;
 /** What must be so of the lengths of a batch's lists.
  * @param {Batch} batch
  * @returns {Demand[]} */
-function demands({certificate, fills, mark, orders, underlyings}) {
+function demands(batch) {
+    const {certificate, fills, mark, orders, underlyings} = batch;
     const forms = orders.flatMap(order => order.legs.map(leg => leg.form));
     const states = certificate === null ? [] : certificate.measure.map(point => point.state);
     const kind = certificate === null ? null : coverKind(certificate.cover);
@@ -28,7 +29,8 @@ function demands({certificate, fills, mark, orders, underlyings}) {
         ["as many fills as orders", `${fills.length} for ${orders.length}`,
             fills.length === orders.length],
         ["a cover for so many underlyings", `${kind === null ? "none" : kind.word}, ${underlyings}`,
-            kind === null || kind.fits(underlyings)],
+            kind === null || certificate === null
+                || kind.fits(underlyings, batch, certificate.cover)],
         entriesDemand("form", forms, underlyings),
         entriesDemand("state of the measure", states, underlyings),
         ...mark === "bounded" ? walkedDemands(certificate?.cover, forms.length) : [],

@@ -1,5 +1,6 @@
 // The picture of stakes over one price at the settlement, with the other prices set by hand.
 import {curvesOf, reach, worthTable} from "./stakes.mjs";
+import {drawWorth, worthMapTable} from "./worth_map.mjs";
 import {element, foldedTable} from "./tables.mjs";
 import {label, line, picture, rounded, scale, svg, ticks} from "./svg.mjs";
 import {field, numberInput} from "./forms.mjs";
@@ -63,6 +64,7 @@ export class WorthPicture {
         this.axis = 0;
         /** @type {number[]} */
         this.prices = [];
+        this.hasStakes = false;
         /** @type {Heap[]} */
         this.heaps = [];
     }
@@ -70,9 +72,14 @@ export class WorthPicture {
     /** @param {Heap[]} heaps @param {number} count of underlyings */
     show(heaps, count) {
         this.heaps = heaps;
-        if (count !== this.prices.length) {
+        const strikes = heaps.flatMap(heap => heap.stakes)
+            .flatMap(stake => stake.legs.map(leg => Math.abs(Number(leg.form[0]))));
+        const isFirst = !this.hasStakes && strikes.length > 0;
+        if (count !== this.prices.length || isFirst) {
+            const middle = Math.round(Math.max(10, ...strikes) / count);
             this.axis = 0;
-            this.prices = Array.from({length: count}, () => 10);
+            this.hasStakes = strikes.length > 0;
+            this.prices = Array.from({length: count}, () => middle);
             this.set();
         }
         this.redraw();
@@ -87,7 +94,7 @@ export class WorthPicture {
             this.redraw();
         });
         const others = names.map((name, at) => {
-            const input = numberInput("10", () => {
+            const input = numberInput(`${this.prices[at]}`, () => {
                 this.prices[at] = Math.max(0, Math.round(Number(input.value) || 0));
                 this.redraw();
             });
@@ -104,6 +111,17 @@ export class WorthPicture {
         const name = underlying(axis, prices.length);
         const curves = curvesOf(heaps, axis, prices, greatest);
         this.drawing.replaceChildren(draw(curves, greatest, name, width),
-            foldedTable(worthTable(this.caption, heaps, axis, prices, greatest)));
+            foldedTable(worthTable(this.caption, heaps, axis, prices, greatest)),
+            ...(prices.length === 2 ? this.map(width) : []));
+    }
+
+    /** The last heap over both prices.
+     * @param {number} width */
+    map(width) {
+        const {heaps, prices} = this;
+        const [heap] = heaps.slice(-1);
+        /** @type {[number, number]} */
+        const far = [reach(heap.stakes, 0, prices), reach(heap.stakes, 1, prices)];
+        return [drawWorth(heap, far, width), foldedTable(worthMapTable(heap, far))];
     }
 }

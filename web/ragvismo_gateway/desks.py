@@ -130,8 +130,8 @@ class Desks:
         self.ended: asyncio.Future[Exception | None] = asyncio.Future()
         self.loop = asyncio.get_running_loop()
         self.follower = Follower(stores[0], lambda answered, _: self._take(answered))
-        self.reader = Reader(self.follower, self._from_thread(self._send_again), self._fail)
-        self.writer = Writer(stores[1], kept, self._fail)
+        self.reader = Reader(self.follower, self._from_thread(self._send_again), self.fail)
+        self.writer = Writer(stores[1], kept, self.fail)
         self.is_reading = False
 
     # ---- beginning
@@ -170,7 +170,8 @@ class Desks:
         if not self.loop.is_closed():
             self.loop.call_soon_threadsafe(call, *given)
 
-    def _fail(self, fault: Exception) -> None:
+    def fail(self, fault: Exception) -> None:
+        """A thread ended, and so does the gateway."""
         if not isinstance(fault, Ended):
             logging.exception("the gateway ends", exc_info=fault)
         self._post(self._end, fault)

@@ -24,9 +24,11 @@ class Limits(NamedTuple):
 
     lines: Rate = Rate(40, 20)
     asked: Rate = Rate(200, 50)
+    questions: Rate = Rate(60, 10)
     logins: Rate = Rate(20, 0.5)
     logins_of_name: Rate = Rate(5, 0.05)
     waiting: int = 16
+    asking: int = 8
     feeds: int = 8
     connections: Most = Most()
 

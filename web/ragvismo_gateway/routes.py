@@ -68,12 +68,16 @@ def answers_of(route: Route) -> dict[str, Any]:
     return told
 
 
+def kind_of(name: str) -> str:
+    return "string" if name in ("side", "option") else "integer"
+
+
 def operation(route: Route) -> dict[str, Any]:
     names = [part[1:-1] for part in route.path.split("/") if part.startswith("{")]
     given: dict[str, Any] = {"summary": route.says, "responses": answers_of(route)}
     if names:
         given["parameters"] = [
-            {"name": name, "in": "path", "required": True, "schema": {"type": "integer"}}
+            {"name": name, "in": "path", "required": True, "schema": {"type": kind_of(name)}}
             for name in names
         ]
     if route.takes:

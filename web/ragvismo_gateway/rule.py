@@ -1,4 +1,4 @@
-"""Who may say which line. It is not yet a rule of the exchange, so here alone it is kept.
+"""Who may say which line: the rule of the exchange, so that what it refuses does not fill the log.
 
 A session owns the accounts that it opened. Sessions 1 to 9 are the operator's. A line is taken in
 one spelling, in which the exchange and the gateway cannot read two things: no field stands in

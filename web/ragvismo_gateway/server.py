@@ -8,13 +8,16 @@ import functools
 import json
 import logging
 import pathlib
+import re
 import secrets
 from collections.abc import Awaitable, Callable
-from typing import Any
+from typing import Any, NamedTuple
 
 from aiohttp import web
 from ragvismo_gateway import rule
 from ragvismo_gateway.answers import HEADERS, answered, refused
+from ragvismo_gateway.asking import Questions
+from ragvismo_gateway.clock import Clock, now_in_milliseconds
 from ragvismo_gateway.connections import Connection, Connections, network_of
 from ragvismo_gateway.desks import Answer, Desks
 from ragvismo_gateway.feeds import Lines, tell
@@ -25,6 +28,7 @@ from ragvismo_gateway.routes import Handler, Table, openapi
 from ragvismo_gateway.view import reply_text
 from ragvismo_service.places import Keys
 from ragvismo_service.store import Store
+from ragvismo_service.streams import counts
 
 PAGE = pathlib.Path(__file__).resolve().parents[1] / "page"
 KINDS = {
@@ -42,12 +46,19 @@ TABLE = Table()
 HASHES = 2
 # So many answers to what is asked are kept.
 ASKED = 10_000
+# How many units each clear of a question may take.
+PRICE_BUDGET, TRY_BUDGET = 300, 2000
+FIELDS = {
+    "side": "buy|sell",
+    "price": "0|[1-9][0-9]{0,12}",
+    "option": "(call|put)(,-?[0-9]{1,10}){2,9}",
+}
 HTTP_REASONS = {404: Reason.UNKNOWN, 405: Reason.METHOD, 413: Reason.LONG}
 
 
-def status_of(answer: Answer) -> int:
+def status_of(reply: dict[str, Any]) -> int:
     """What the exchange refuses is 422."""
-    return 422 if answer.reply["reply"] == "refused" else 200
+    return 422 if reply["reply"] == "refused" else 200
 
 
 def encoded(text: str) -> bytes:
@@ -80,20 +91,37 @@ def named(request: web.Request, part: str) -> int:
     return int(text)
 
 
+def field(request: web.Request, part: str) -> str:
+    """A field of a question that stands in a path; raises Refusal."""
+    text = request.match_info[part]
+    if not re.fullmatch(FIELDS.get(part, rule.PLAIN.pattern), text):
+        raise Refusal(Reason.FORM, f"{part} is not as it should be")
+    return text
+
+
+class Asked(NamedTuple):
+    """The reply to a question, and a place in the log of which it knows."""
+
+    at: int
+    reply: dict[str, Any]
+
+
 class Gateway:
     """What stands behind the paths."""
 
     def __init__(
-        self, desks: Desks, members: Members, store: Store, hosts: set[str], limits: Limits
+        self, desks: Desks, questions: Questions, members: Members, store: Store, limits: Limits
     ) -> None:
         self.desks, self.view, self.members, self.limits = desks, desks.view, members, limits
-        self.store, self.hosts, self.is_secure = store, hosts, False
+        self.questions, self.store, self.clock = questions, store, Clock()
+        self.hosts, self.is_secure = set[str](), False
         self.connections = Connections(limits.connections)
         # A password of nobody, so that a name that is none takes as long as one that is.
         self.nobody = hashed_password(secrets.token_hex())
         self.lines, self.asked = Buckets(limits.lines), Buckets(limits.asked)
         self.logins, self.names = Buckets(limits.logins), Buckets(limits.logins_of_name)
-        self.answers: dict[str, Answer] = {}
+        self.asking, self.questioned = Buckets(limits.questions), collections.Counter[str]()
+        self.answers: dict[str, Asked] = {}
         self.hashing, self.reading = asyncio.Semaphore(HASHES), asyncio.Lock()
         self.sockets: dict[str, list[tuple[str, web.WebSocketResponse]]] = collections.defaultdict(
             list
@@ -200,17 +228,40 @@ class Gateway:
         check = functools.partial(rule.check, self.view, member, body)
         return await self.desks.say(member.session, body, key, self.limits.waiting, check)
 
-    async def ask(self, member: Member, line: str, account: int) -> web.Response:
-        """The reply to what changes nothing, told again until the account is touched. It is a
-        message as any; where the exchange knows questions, a follower is asked here."""
-        rule.check(self.view, member, line.encode())
-        answer = self.answers.get(line)
-        if answer is None or answer.at < self.view.changed(account):
-            answer = await self.take(member, line, "")
+    async def ask(self, member: Member, line: str, changed: Callable[[], int]) -> web.Response:
+        """The reply to a question, told again until what it is about changed."""
+        asked = self.answers.get(line)
+        if asked is None or asked.at < changed():
+            asked = Asked(self.view.count, await self.question(member, line))
             if len(self.answers) >= ASKED:
                 self.answers.clear()
-            self.answers[line] = answer
-        return answered({"at": answer.at, **answer.reply}, status_of(answer))
+            self.answers[line] = asked
+        return answered({"at": asked.at, **asked.reply}, status_of(asked.reply))
+
+    async def question(self, member: Member, line: str) -> dict[str, Any]:
+        """What a follower replies; raises Refusal where a member asks too much."""
+        if self.questioned[member.name] >= self.limits.asking:
+            raise Refusal(Reason.OFTEN, f"{self.limits.asking} questions of yours wait already")
+        self.asking.take(member.name)
+        self.questioned[member.name] += 1
+        try:
+            return await self.questions.ask(member.session, line)
+        finally:
+            self.questioned[member.name] -= 1
+
+    async def ask_of_account(self, request: web.Request, line: str) -> web.Response:
+        """The reply to a question about an account of one's own; raises Refusal."""
+        member, account = self.member_of(request), named(request, "account")
+        rule.check_owner(self.view, member, account, True)
+        return await self.ask(member, line, lambda: self.view.changed(account))
+
+    async def ask_of_market(self, request: web.Request, *parts: str | int) -> web.Response:
+        """The reply to a question about a market; a part that is a word is that of the path."""
+        given = request.match_info
+        told = [field(request, it) if it in given else it for it in map(str, parts)]
+        market = named(request, "market")
+        changed = functools.partial(self.view.changed_book, market)
+        return await self.ask(self.member_of(request), ",".join(told), changed)
 
     @TABLE.add(
         "POST",
@@ -229,18 +280,19 @@ class Gateway:
         except UnicodeDecodeError:
             raise Refusal(Reason.FORM, "a line is UTF-8") from None
         answer = await self.take(member, line, request.headers.get("Idempotency-Key", ""))
-        return answered(answer.told(), status_of(answer))
+        return answered(answer.told(), status_of(answer.reply))
 
     # ---- what is seen
 
-    @TABLE.add("GET", "/markets", s200='{"at":..,"markets":[..]}')
+    @TABLE.add("GET", "/markets", s200='{"at":..,"markets":[..],"now":..}')
     async def markets(self, request: web.Request) -> web.StreamResponse:
         """The markets, of which each is open, closed or settled; one that is settled has its
-        prices."""
+        prices, and another one what is next there, and when, in milliseconds."""
         self.member_of(request)
         told = [
             {
                 "market": number,
+                "next": self.clock.next(number, market),
                 "orders": len(market.orders),
                 "phase": market.phase,
                 "prices": market.prices,
@@ -248,7 +300,7 @@ class Gateway:
             }
             for number, market in sorted(self.view.markets.items())
         ]
-        return answered({"at": self.view.count, "markets": told})
+        return answered({"at": self.view.count, "markets": told, "now": now_in_milliseconds()})
 
     @TABLE.add("GET", "/book/{market}", s200='{"at":..,"market":..,"orders":[..]}')
     async def book(self, request: web.Request) -> web.StreamResponse:
@@ -284,18 +336,44 @@ class Gateway:
             [[_, fields]] = await asyncio.to_thread(self.store.say, *words)
         return web.Response(body=reply_text(fields[1]) + b"\n", content_type="text/plain")
 
+    # ---- what followers answer
+
     @TABLE.add("GET", "/balance/{account}", s200="the reply `balance`")
     async def balance(self, request: web.Request) -> web.StreamResponse:
         """The balance of an account of one's own."""
-        account = named(request, "account")
-        return await self.ask(self.member_of(request), f"balance,{account}", account)
+        return await self.ask_of_account(request, f"balance,{named(request, 'account')}")
+
+    @TABLE.add("GET", "/need/{account}", s200="the reply `need`")
+    async def need(self, request: web.Request) -> web.StreamResponse:
+        """What an account of one's own needs."""
+        return await self.ask_of_account(request, f"need,{named(request, 'account')}")
 
     @TABLE.add("GET", "/positions/{account}/{market}", s200="the reply `positions`")
     async def positions(self, request: web.Request) -> web.StreamResponse:
         """The positions of an account of one's own in a market."""
-        account, market = named(request, "account"), named(request, "market")
-        line = f"positions,{account},{market}"
-        return await self.ask(self.member_of(request), line, account)
+        line = f"positions,{named(request, 'account')},{named(request, 'market')}"
+        return await self.ask_of_account(request, line)
+
+    @TABLE.add(
+        "GET",
+        "/price/{market}/{quantity}/{option}",
+        s200="the reply `priced`: `ask` is what a buyer has to bid, `bid` what a seller may ask",
+    )
+    async def price(self, request: web.Request) -> web.StreamResponse:
+        """What the market asks and bids for an option as call,10,1."""
+        return await self.ask_of_market(
+            request, "price", "market", PRICE_BUDGET, "quantity", "option"
+        )
+
+    @TABLE.add(
+        "GET",
+        "/try/{market}/{side}/{price}/{quantity}/{option}",
+        s200="the reply `tried`, with the fill",
+    )
+    async def try_order(self, request: web.Request) -> web.StreamResponse:
+        """What would be filled of an order for one option if the market were cleared now."""
+        parts = "side", "price", "quantity", "option"
+        return await self.ask_of_market(request, "try", "market", TRY_BUDGET, *parts)
 
     @TABLE.add("GET", "/history", s200='{"lines":[{"at":..,"line":..,"reply":REPLY},..]}')
     async def history(self, request: web.Request) -> web.StreamResponse:
@@ -313,6 +391,18 @@ class Gateway:
         if not self.member_of(request).is_operator:
             raise Refusal(Reason.NOT_ALLOWED, "the operator sees who the members are")
         return answered({"members": [self.told_of(member) for member in self.members.all()]})
+
+    @TABLE.add("GET", "/service", s200='{"entries":..,"proposals":[..],"waiting":..}')
+    async def service(self, request: web.Request) -> web.StreamResponse:
+        """How many messages there are, how many of them wait for an answer, and what each solver
+        proposed last, for the operator."""
+        if not self.member_of(request).is_operator:
+            raise Refusal(Reason.NOT_ALLOWED, "the operator sees how the service is")
+        keys = Keys.of(self.store.place.name)
+        async with self.reading:
+            appended, answers = await asyncio.to_thread(counts, self.store, keys)
+        waiting, told = appended.length - answers.length, list(self.view.proposed.values())
+        return answered({"entries": appended.length, "proposals": told, "waiting": waiting})
 
     # ---- the feed
 
@@ -352,7 +442,7 @@ class Gateway:
     ) -> tuple[int, dict[str, Any]]:
         """A line over a feed, whose login may have ended since; raises Refusal."""
         answer = await self.take(self.member_of(request), line, key)
-        return status_of(answer), answer.told()
+        return status_of(answer.reply), answer.told()
 
     @TABLE.add("GET", "/openapi.json", True, s200="OpenAPI 3.1")
     async def interface(self, request: web.Request) -> web.StreamResponse:

@@ -2,11 +2,14 @@
 accounts alone.
 
     web/gateway FOLDER [--listen HOST:PORT] [--certificate FILE --key FILE] [--host NAME]
-                [--at PLACE] [--password FILE]
+                [--auctions SECONDS] [--timetable FILE] [--at PLACE] [--password FILE]
 
 FOLDER has the members (web/members adds them) and the messages that are not answered yet. Without a
 certificate it listens on the loopback address alone (127.0.0.1:8000, if not given). --host, once
-for each, tells by which names it is reached beside that. docs/WEB.md says what it does.
+for each, tells by which names it is reached beside that. --auctions and --timetable tell what the
+page's clock shows: how often an auctioneer begins an auction, and a list [[MILLISECONDS, LINE],..]
+of what the operator says when. What is asked is asked of service/follower, of which one has to run.
+docs/WEB.md says more.
 
 It runs until it is stopped, or ends with one line on standard error and status
 """
@@ -23,6 +26,9 @@ from argparse import Namespace
 from typing import Any, NamedTuple
 
 from aiohttp import web
+from ragvismo_gateway import clock
+from ragvismo_gateway.asking import Questions
+from ragvismo_gateway.clock import Clock
 from ragvismo_gateway.connections import Connection
 from ragvismo_gateway.desks import Desks
 from ragvismo_gateway.keeping import Kept
@@ -35,7 +41,7 @@ from ragvismo_service import files
 from ragvismo_service.statuses import BadUse, Status, table
 from ragvismo_service.store import Store
 from ragvismo_service.watchdog import ready
-from ragvismo_service.words import Words, place_of, status_of
+from ragvismo_service.words import Words, place_of, seconds, status_of
 
 # How long a connection may take to become secret, in seconds.
 HANDSHAKE = 10.0
@@ -104,12 +110,15 @@ def security(given: Namespace) -> ssl.SSLContext | None:
 async def serve(given: Namespace, context: ssl.SSLContext | None) -> None:
     """Serves until a signal comes; Ended where the log cannot be read or written."""
     path, place = given.folder / FILE, place_of(given)
-    members, stores = Members(path), [Store(place, given.patience, "gateway") for _ in range(3)]
+    members, stores = Members(path), [Store(place, given.patience, "gateway") for _ in range(5)]
     desks = Desks(View(), (stores[0], stores[1]), lambda: Kept(path, place.name))
     desks.begin()
-    hosts = given.listen.names() | set(given.host)
-    gateway = Gateway(desks, members, stores[2], hosts, Limits())
+    questions = Questions((stores[3], stores[4]), desks.fail)
+    questions.begin()
+    gateway = Gateway(desks, questions, members, stores[2], Limits())
+    gateway.hosts = given.listen.names() | set(given.host)
     gateway.is_secure = context is not None
+    gateway.clock = Clock(int(1000 * given.auctions), given.timetable)
     runner = web.AppRunner(application(gateway))
     await runner.setup()
     listening = await listen(given.listen, context, runner, gateway)
@@ -159,6 +168,8 @@ def run() -> None:
     words.add_argument("--certificate", metavar="FILE")
     words.add_argument("--key", metavar="FILE")
     words.add_argument("--host", action="append", default=[], metavar="NAME")
+    words.add_argument("--auctions", type=seconds, default=0.0, metavar="SECONDS")
+    words.add_argument("--timetable", type=clock.read, default=(), metavar="FILE")
     given = words.parse_args()
     context = security(given)
     have_many_files()

@@ -10,6 +10,7 @@ from typing import Any, NamedTuple
 
 from ragvismo_gateway.keeping import KEPT
 from ragvismo_service.chain import Answered
+from ragvismo_service.messages import time_of
 
 # How many events can be told again to who lost the connection.
 EVENTS = 10_000
@@ -42,11 +43,13 @@ class Order(NamedTuple):
 
 
 class Market(NamedTuple):
-    """A market; its prices are none until it is settled."""
+    """A market; its prices are none until it is settled. It began when it was listed, or closed
+    last, in milliseconds by the clock of Redis."""
 
     underlyings: int
     orders: dict[int, Order]
     prices: list[int]
+    began: int
     is_closed: bool = False
 
     @property
@@ -144,9 +147,12 @@ class View:
         self.dropped: collections.Counter[int] = collections.Counter()
         self.last: dict[int, int] = {}
         # Where in the log the balance or the positions of an account may have changed last, and
-        # where a market was listed or settled last.
+        # the live orders of a market, and where a market was listed or settled last.
         self.touched: dict[int, int] = {}
+        self.moved: dict[int, int] = {}
         self.markets_changed = 0
+        # What was proposed last, by session and market.
+        self.proposed: dict[tuple[int, int], dict[str, Any]] = {}
         self.events: collections.deque[Event] = collections.deque(maxlen=EVENTS)
 
     def take(self, answered: Answered) -> tuple[int, int] | None:
@@ -200,6 +206,10 @@ class View:
         """Where in the log what is told of an account may have changed last."""
         return max(self.touched.get(account, 0), self.markets_changed)
 
+    def changed_book(self, market: int) -> int:
+        """Where in the log what is told of a market's live orders may have changed last."""
+        return max(self.moved.get(market, 0), self.markets_changed)
+
     # ---- what each reply changes
 
     def _opened(self, session: int, body: bytes, reply: dict[str, Any], id: bytes) -> None:
@@ -216,14 +226,22 @@ class View:
     def _withdrawn(self, session: int, body: bytes, reply: dict[str, Any], id: bytes) -> None:
         self._touch(reply["account"])
 
+    def _secured(self, session: int, body: bytes, reply: dict[str, Any], id: bytes) -> None:
+        self._touch(reply["account"])
+
+    def _proposed(self, session: int, body: bytes, reply: dict[str, Any], id: bytes) -> None:
+        self.proposed[session, reply["market"]] = {"at": self.count, "session": session, **reply}
+
     def _listed(self, session: int, body: bytes, reply: dict[str, Any], id: bytes) -> None:
-        self.markets[reply["market"]] = Market(reply["underlyings"], {}, [])
+        self.markets[reply["market"]] = Market(reply["underlyings"], {}, [], time_of(id))
         self.markets_changed = self.count
         told: dict[str, Any] = {"market": reply["market"], "underlyings": reply["underlyings"]}
         self._tell(0, [], event="listed", **told)
 
     def _closed(self, session: int, body: bytes, reply: dict[str, Any], id: bytes) -> None:
         self._set_closed(reply["market"], True)
+        market = self.markets[reply["market"]]
+        self.markets[reply["market"]] = market._replace(began=time_of(id))
         self._tell(0, [], event="closed", market=reply["market"])
 
     def _reopened(self, session: int, body: bytes, reply: dict[str, Any], id: bytes) -> None:
@@ -233,6 +251,7 @@ class View:
     def _placed(self, session: int, body: bytes, reply: dict[str, Any], id: bytes) -> None:
         order = order_of(reply["order"], body, lambda market: self.markets[market].underlyings)
         self.markets[order.market].orders[order.number] = order
+        self.moved[order.market] = self.count
         self._touch(order.account)
         self.market_of[order.number] = order.market
         self.placed[session] += 1
@@ -242,6 +261,7 @@ class View:
     def _cancelled(self, session: int, body: bytes, reply: dict[str, Any], id: bytes) -> None:
         market = self.market_of.pop(reply["order"])
         order = self.markets[market].orders.pop(reply["order"])
+        self.moved[market] = self.count
         self._touch(order.account)
         told: dict[str, Any] = {"market": market, "order": order.number}
         self._tell(order.account, [], event="cancelled", **told)
@@ -270,6 +290,7 @@ class View:
         self.markets[market] = self.markets[market]._replace(is_closed=is_closed)
 
     def _take_orders(self, market: int) -> None:
+        self.moved[market] = self.count
         for number, order in self.markets[market].orders.items():
             self._touch(order.account)
             del self.market_of[number]

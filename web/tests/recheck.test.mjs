@@ -174,3 +174,32 @@ test("answers to messages tell the line within", () => {
     assert.equal(says(`{"number":6,"of":${answer},"session":1}`), "Shape");
     assert.equal(says(answer.replace('"bound":"6/7"', '"bound":"1"')), "Bound");
 });
+
+test("a cover by cells", () => {
+    const order = (number, side, price, form) =>
+        `{"account":1,"legs":[{"count":1,"form":[${form}]}],"order":${number},"price":${price},`
+        + `"quantity":1,"side":"${side}"}`;
+    const orders = [order(1, "buy", 3, "-10,1,1"), order(2, "sell", 1, "-10,1,0"),
+        order(3, "sell", 1, "0,0,1")];
+    const measure = '[{"state":["1","0","0"],"weight":"1"}]';
+    const line = '{"batch":1,"bound":"3","certificate":{"cover":{"cells":[{"split":1},'
+        + `{"leaf":[2,"1",3,"1"]},{"leaf":[]}]},"measure":${measure}},"fills":["1","1","1"],`
+        + `"liability":"0","line":1,"mark":"bounded","market":1,"orders":[${orders}],`
+        + '"reply":"cleared","run":"budget","surplus":"1","underlyings":2,"units":1,"version":3}';
+    const bound = of => `{"bound":${of},"minus":[],"plus":[]}`;
+    refuses(line, [
+        ['{"leaf":[2,"1",3,"1"]}', '{"full":[2,3],"leaf":[]}', "Yes"],
+        ['{"leaf":[2,"1",3,"1"]}', `${bound(2)},{"full":[2,3],"leaf":[]}`, "Yes"],
+        ['{"leaf":[2,"1",3,"1"]}', '{"leaf":[2,"2",3,"1"]}', "Cover"],
+        ['{"leaf":[2,"1",3,"1"]}', '{"full":[2],"leaf":[2,"1",3,"1"]}', "Cover"],
+        ['{"leaf":[2,"1",3,"1"]}', `${bound(1)},{"full":[2,3],"leaf":[]}`, "Cover"],
+        ['{"split":1}', '{"split":2}', "Cover"],
+        ['{"split":1}', '{"split":4}', "BatchShape"],
+        ['{"split":1}', '{"split":1},{"split":2}', "BatchShape"],
+        [',{"leaf":[]}]', "]", "BatchShape"],
+        ['{"leaf":[]}]', '{"leaf":[]},{"leaf":[]}]', "BatchShape"],
+        ['{"leaf":[2,"1",3,"1"]}', '{"leaf":[3,"1",2,"1"]}', "Range"],
+        ['{"leaf":[2,"1",3,"1"]}', '{"full":[],"leaf":[]}', "Range"],
+        ['{"leaf":[2,"1",3,"1"]}', '{"leaf":[2,"1",3]}', "Shape"],
+    ]);
+});

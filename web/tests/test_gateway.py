@@ -34,29 +34,30 @@ class Gateway(Trading):
     def test_the_butterfly_from_login_to_settlement(self) -> None:
         ana, eva, operator = map(self.visitor, ("ana", "eva", "operator"))
         since = ana.get("/markets")["at"]
-        self.assertEqual(eva.reply("sell,103,1,call,5,8,1,1")["reply"], "placed")
-        eva.line("sell,103,1,call,12,4,1,1")
-        bought = ana.reply("buy,101,1,call,10,6,1,1")["order"]
+        self.assertEqual(eva.reply("sell,103,1,put,5,1,1,1")["reply"], "placed")
+        eva.line("sell,103,1,put,12,6,1,1")
+        bought = ana.reply("buy,101,1,put,10,5,1,1")["order"]
         own = [order for order in ana.get("/book/1")["orders"] if "account" in order]
         self.assertEqual([order["order"] for order in own], [bought])
         self.assertEqual(len(ana.get("/book/1")["orders"]), 3)
         told = [order["account"] for order in operator.get("/book/1")["orders"]]
         self.assertEqual(told, [103, 103, 101])
         cleared = operator.reply("clear,1,100")
-        self.assertEqual((cleared["mark"], cleared["surplus"]), ("optimal", "6/7"))
+        self.assertEqual((cleared["mark"], cleared["surplus"]), ("optimal", "3/7"))
         self.assertEqual(ana.get("/book/1")["orders"], [])
         line = ana.ask("GET", f"/batches/{cleared['batch']}").body
         self.assertEqual(json.loads(line), cleared)
         self.assertEqual(audit(line), {"batches": 1, "bounded": 0, "lines": 1, "optimal": 1})
-        self.assertEqual(ana.get("/balance/101")["balance"], "994")
-        self.assertEqual(len(ana.get("/positions/101/1")["positions"]), 1)
-        operator.line("settle,1,11")
         self.assertEqual(ana.get("/balance/101")["balance"], "995")
+        self.assertEqual(len(ana.get("/positions/101/1")["positions"]), 1)
+        operator.line("settle,1,8")
+        self.assertEqual(ana.get("/balance/101")["balance"], "997")
         told = self.events(ana, since)
         kinds = [it["event"] for it in told if it["event"] != "answer"]
         self.assertEqual(kinds, [*["placed"] * 3, "cleared", "settled"])
-        payout = {"account": 101, "amount": "1", "batch": cleared["batch"], "order": bought}
-        self.assertEqual(told[-2]["payouts"], [payout])
+        payout = {"account": 101, "amount": "2", "batch": cleared["batch"], "order": bought}
+        [settled] = [it for it in told if it["event"] == "settled"]
+        self.assertEqual(settled["payouts"], [payout])
 
     def events(self, visitor: Visitor, since: int) -> list[Any]:
         async def first(feed: Any) -> list[Any]:
@@ -69,7 +70,7 @@ class Gateway(Trading):
         for line in (
             "buy,102,2,call,20,6,1,1,1",
             "bundle,102,2,sell,3,2,2,1,put,8,1,0,-1,put,12,0,-1",
-            "sell,102,2,put,7,4,1,-1,2",
+            "sell,102,2,put,7,4,1,1,2",
         ):
             self.assertEqual(ben.line(line).status, 200)
         ben.line(f"cancel,102,{ben.get('/book/2')['orders'][0]['order']}")
@@ -161,12 +162,41 @@ class Gateway(Trading):
         self.assertEqual(after["balance"], before["balance"])
         self.assertEqual(after["reserved"], "1")
 
-    def test_an_owner_secures_an_account(self) -> None:
+    def test_accounts_of_traders_are_secured(self) -> None:
         ana = self.visitor("ana")
-        self.assertEqual(ana.reply("secure,111")["reply"], "secured")
+        told = ana.get("/need/111")
+        self.assertEqual((told["reply"], told["secured"]), ("need", True))
         # What the account owes at a high price is above its balance.
-        told = ana.line("sell,111,3,call,1,0,1000,1")
-        self.assertEqual((told.status, told.json()["reply"]["reason"]), (422, "Margin"))
+        reply = ana.line("sell,111,3,call,1,0,1000,1")
+        self.assertEqual((reply.status, reply.json()["reply"]["reason"]), (422, "Margin"))
+        self.assertRegex(reply.json()["reply"]["need"], "^[0-9]+$")
+
+    def test_what_a_market_asks(self) -> None:
+        """Followers tell what an option costs, and what would be filled of an order."""
+        eva, ana = self.visitor("eva"), self.visitor("ana")
+        self.visitor("operator").line("market,6,1")
+        # A put pays at most its strike.
+        self.assertEqual(ana.get("/price/6/1/put,12,1")["ask"], "13")
+        eva.line("sell,103,6,put,12,6,2,1")
+        told = ana.get("/price/6/1/put,12,1")
+        self.assertEqual((told["ask"], told["bid"]), ("7", "never"))
+        told = ana.get("/try/6/buy/7/5/put,12,1")
+        self.assertEqual((told["fill"], told["mark"], told["surplus"]), ("2", "optimal", "2"))
+        for path, status in (
+            ("/price/6/1/put,12", 400),
+            ("/price/6/1/put,12,1,1", 422),
+            ("/price/60/1/put,12,1", 422),
+            ("/try/6/give/7/5/put,12,1", 400),
+            ("/try/6/buy/7/5/put,12,1%0A", 400),
+            ("/need/103", 403),
+        ):
+            self.assertEqual(ana.ask("GET", path).status, status, path)
+
+    def test_the_operator_sees_the_service(self) -> None:
+        told = self.visitor("operator").get("/service")
+        self.assertEqual((told["waiting"], told["proposals"]), (0, []))
+        self.assertGreater(told["entries"], 0)
+        self.assertEqual(self.visitor("ana").ask("GET", "/service").status, 403)
 
     def test_quotas(self) -> None:
         eva = self.visitor("eva")
@@ -243,16 +273,17 @@ class Gateway(Trading):
         self.assertEqual(eva.login("eva", told).status, 200)
         type(self).cookies["eva"] = eva.cookie
 
-    def test_what_is_asked_is_a_message_once(self) -> None:
-        """Until the account is touched."""
-        ana = self.visitor("ana")
+    def test_what_is_asked_is_no_message(self) -> None:
+        """And knows all that was answered before."""
+        ana, operator = self.visitor("ana"), self.visitor("operator")
         ana.line("withdraw,111,1")
+        before = operator.get("/service")["entries"]
         told = [ana.get(path)["at"] for path in ("/balance/111", "/positions/111/3") * 3]
-        self.assertEqual(len(set(told)), 2)
+        self.assertEqual(operator.get("/service")["entries"], before)
         ana.line("withdraw,111,1")
         withdrawn = ana.get("/balance/111")
         self.assertGreater(withdrawn["at"], max(told))
-        self.visitor("operator").line("deposit,111,2")
+        operator.line("deposit,111,2")
         left = int(withdrawn["balance"])
         self.assertEqual(ana.get("/balance/111")["balance"], str(left + 2))
 

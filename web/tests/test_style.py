@@ -13,14 +13,19 @@ from tests import WEB, wants
 DRAWING = {"batch_page", "batch_tables", "curve", "map", "picture_view", "seen", "svg", "tables"}
 TRADING = {
     "account_view",
+    "asked_last",
     "bundles",
+    "depth_picture",
     "forms",
     "gateway",
     "market_view",
+    "probe_view",
+    "refusal_words",
     "stakes",
     "ticket_view",
     "trading_page",
     "trading_state",
+    "worth_map",
     "worth_picture",
 }
 

@@ -8,7 +8,7 @@ from collections.abc import Callable
 from typing import Any
 
 from tests import wants
-from tests.test_page import SCREEN, SHOTS, TELEPHONE, open_browser
+from tests.test_page import SCREEN, SHOTS, TELEPHONE, open_browser, serve_folder
 from tests.trading import SECRET, Trading
 
 try:
@@ -30,7 +30,8 @@ class TradingPage(Trading):
         super().setUpClass()
         SHOTS.mkdir(exist_ok=True)
         cls.say(ana="open,101 open,111", eva="open,103")
-        cls.say(operator="market,1,1 market,2,2 deposit,101,1000 deposit,111,1000")
+        deposits = " ".join(f"deposit,{account},1000" for account in (101, 103, 111))
+        cls.say(operator=f"market,1,1 market,2,2 {deposits}")
         cls.browser = open_browser()
         cls.addClassCleanup(cls.browser.quit)
 
@@ -103,9 +104,9 @@ class TradingPage(Trading):
         self.until(is_chosen)
 
     def order(self, side: str, strike: str, price: str) -> None:
-        """Sends the order for a call."""
+        """Sends the order for a put."""
         self.view("ticket")
-        self.set("ticket", Side=side, Kind="call")
+        self.set("ticket", Side=side, Kind="put")
         self.set("ticket", Strike=strike, Limit_price=price)
         line = self.text("ticket-line")
         self.part("ticket-send").click()
@@ -131,14 +132,14 @@ class TradingPage(Trading):
 
     def test_the_butterfly(self) -> None:
         self.enter("eva")
-        self.order("sell", "5", "8")
-        self.order("sell", "12", "4")
+        self.order("sell", "5", "1")
+        self.order("sell", "12", "6")
         self.enter("ana")
-        self.order("buy", "10", "6")
+        self.order("buy", "10", "5")
         self.shot("ticket")
         self.view("market")
         self.until(lambda: "★ mine: 101" in self.text("book"))
-        self.assertEqual(self.text("book").count("call"), 3)
+        self.assertEqual(self.text("book").count("put"), 3)
         self.assertNotIn("103", self.text("book"))
         self.shot("market")
         self.enter("operator")
@@ -151,10 +152,10 @@ class TradingPage(Trading):
         self.shot("operator")
         self.enter("ana")
         self.view("batches")
-        self.until(lambda: "6/7" in self.text("batch-list"))
+        self.until(lambda: "3/7" in self.text("batch-list"))
         self.shot("batches")
         self.view("account")
-        self.until(lambda: "994" in self.text("balances") and "call 10" in self.text("positions"))
+        self.until(lambda: "995" in self.text("balances") and "put 10" in self.text("positions"))
         self.shot("account")
         self.resize(TELEPHONE)
         for view in ("market", "ticket", "batches", "account"):
@@ -215,6 +216,85 @@ class TradingPage(Trading):
         self.assertIn("call 10 on S1 − S2", self.text("ticket-says"))
         self.assertTrue(self.text("ticket-line").startswith("buy,101,2,call,10,6,1,1,-1"))
         self.shot("ticket-two")
+
+    def test_a_strike_is_dragged(self) -> None:
+        """What the market asks is told and drawn."""
+        self.say(operator="market,4,1", eva="sell,103,4,put,12,6,2,1")
+        self.enter("ana")
+        self.choose(self.place_of(4))
+        self.until(lambda: "It is asked at 7, and nobody buys it." == self.text("implied"))
+        self.until(lambda: bool(self.depth("buy-7")))
+        self.part("depth").find_element(By.TAG_NAME, "summary").click()
+        self.assertIn("buy 7 2", self.text("depth"))
+        self.shot("implied")
+        self.part("strike-range").send_keys(Keys.ARROW_RIGHT)
+        self.until(lambda: "asked at 8" in self.text("implied"))
+        self.assertEqual(self.field("market", "Strike").get_attribute("value"), "13")
+
+    def depth(self, part: str) -> Any:
+        return self.part("depth").find_elements(By.CSS_SELECTOR, f'[data-part="{part}"]')
+
+    def place_of(self, market: int) -> int:
+        """The place of a market among all that can be chosen."""
+        told = self.visitor("ana").get("/markets")["markets"]
+        return [it["market"] for it in told].index(market)
+
+    def test_a_ticket_tells_what_it_needs(self) -> None:
+        """Before it is sent, as the exchange tells it afterwards; and what would be filled."""
+        self.say(operator="market,7,1", eva="buy,103,7,put,12,7,2,1")
+        self.enter("ana")
+        self.choose(self.place_of(7))
+        self.view("ticket")
+        self.set("ticket", Kind="put", Side="sell")
+        self.set("ticket", Strike="12", Limit_price="6", Quantity="3")
+        self.until(lambda: "2 of 3 would be filled" in self.text("ticket-try"))
+        told = self.text("ticket-need")
+        self.shot("ticket-need")
+        self.part("ticket-send").click()
+        self.until(lambda: self.text("told").endswith("placed."))
+        need = self.visitor("ana").get("/need/101")["need"]
+        self.assertEqual(told, f"With it account 101 needs {need} of its 1000 ticks.")
+        self.set("ticket", Quantity="1000")
+        self.until(lambda: "too much: it would be refused" in self.text("ticket-need"))
+        self.part("ticket-send").click()
+        said = "refused, since the account could not bear it: it would need"
+        self.until(lambda: said in self.text("told"))
+
+    def test_another_account(self) -> None:
+        """No way by the page; and another page has none by this one's login."""
+        before = self.visitor("ana").get("/balance/111")
+        self.enter("eva")
+        self.view("account")
+        self.set_in("Withdraw", "Account", "111")
+        self.set_in("Withdraw", "Ticks", "7")
+        self.press("account", "Withdraw")
+        self.until(lambda: self.text("told") == "✗ withdraw,111,7: account 111 is not yours")
+        self.enter("ana")
+        other = serve_folder()
+        self.addCleanup(other.shutdown)
+        self.browser.get(f"http://127.0.0.1:{other.server_port}/batch.html")
+        given = {"method": "POST", "body": "withdraw,111,7", "credentials": "include"}
+        script = (
+            "const [place, given, done] = arguments; fetch(place, given).then("
+            "() => done('sent'), () => done('failed'))"
+        )
+        for mode in ("cors", "no-cors"):
+            place = f"http://127.0.0.1:{self.port}/lines"
+            self.browser.execute_async_script(script, place, {**given, "mode": mode})
+        self.assertEqual(self.visitor("ana").get("/balance/111")["balance"], before["balance"])
+
+    def test_a_lost_redis(self) -> None:
+        self.enter("ana")
+        self.view("account")
+        self.kill("redis")
+        self.set_in("Withdraw", "Account", "111")
+        self.set_in("Withdraw", "Ticks", "3")
+        self.press("account", "Withdraw")
+        self.until(lambda: "sent" in self.text("told"))
+        self.start("redis")
+        self.until(lambda: self.text("told") == "✓ withdraw,111,3: withdrawn.")
+        history = self.visitor("ana").get("/history")["lines"]
+        self.assertEqual([it["line"] for it in history].count("withdraw,111,3"), 1)
 
     def test_keys_alone(self) -> None:
         pressed = ActionChains(self.browser)

@@ -2,13 +2,17 @@
 
 from __future__ import annotations
 
+import json
+import os
 import pathlib
 import signal
 import subprocess
+import sys
 import tempfile
 import unittest
+from typing import Any
 
-from tests import WEB
+from tests import TOP, WEB, wants
 from tests.trading import IS_SKIPPED, PROGRAM, WHY, Visitor, free_port, wait_for
 
 
@@ -24,16 +28,18 @@ class Up(unittest.TestCase):
         self.addCleanup(held.cleanup)
         self.folder, self.port, self.redis = pathlib.Path(held.name), free_port(), free_port()
 
-    def up(self) -> tuple[subprocess.Popen[str], dict[str, str]]:
-        """An exchange, and the passwords that it printed."""
+    def up(self, setting: dict[str, Any]) -> tuple[subprocess.Popen[str], dict[str, str]]:
+        """An exchange that begins so, and the passwords that it printed."""
+        (self.folder / "setting.json").write_text(json.dumps(setting))
         words = [str(WEB / "up"), str(self.folder / "all"), "--program", str(PROGRAM)]
         more = ["--port", str(self.port), "--redis", str(self.redis)]
         process = subprocess.Popen(
-            [*words, *more],
+            [*words, *more, "--experiment", str(self.folder / "setting.json")],
             stdout=subprocess.PIPE,
             stderr=subprocess.DEVNULL,
             text=True,
             preexec_fn=heed_interrupts,
+            start_new_session=True,
         )
         self.addCleanup(process.kill)
         assert process.stdout
@@ -44,30 +50,65 @@ class Up(unittest.TestCase):
                 break
             name, secret = line.split()
             told[name] = secret
-        wait_for(self.port)
         return process, told
 
     def end(self, process: subprocess.Popen[str]) -> None:
-        """By Ctrl-C; then nobody listens."""
-        process.send_signal(signal.SIGINT)
+        """By Ctrl-C, which a terminal gives to all of its processes; then nobody listens."""
+        os.killpg(process.pid, signal.SIGINT)
         self.assertEqual(process.wait(60), 130)
         for port in (self.port, self.redis):
             with self.assertRaises(OSError):
                 Visitor(port).get("/")
 
     def test_two_days(self) -> None:
-        process, secrets = self.up()
+        """The demonstration, whose orders are all placed; nobody clears it here."""
+        setting = json.loads((WEB / "demonstration.json").read_text())
+        setting["auctions"] = 0
+        process, secrets = self.up(setting)
+        wait_for(self.port)
         self.assertEqual(list(secrets), ["operator", "ana", "ben", "eva"])
         ana = Visitor(self.port)
         self.assertEqual(ana.login("ana", secrets["ana"]).json()["accounts"], [101])
         self.assertEqual(ana.get("/balance/101")["balance"], "1000")
-        self.assertEqual(len(ana.get("/book/1")["orders"]), 2)
+        self.assertEqual(len(ana.get("/book/1")["orders"]), 6)
         self.assertEqual(ana.line("withdraw,101,400").status, 200)
         self.assertIn(b"<title>Ragvismo</title>", ana.ask("GET", "/").body)
         self.end(process)
         self.assertTrue((self.folder / "all/journal/000001.messages").exists())
-        process, again = self.up()
+        process, again = self.up(setting)
+        wait_for(self.port)
         self.assertEqual(again, secrets)
         self.assertEqual(ana.get("/balance/101")["balance"], "600")
-        self.assertEqual(len(ana.get("/book/1")["orders"]), 2)
+        self.assertEqual(len(ana.get("/book/1")["orders"]), 6)
         self.end(process)
+
+    @wants(modules=("pandas",))
+    def test_an_experiment(self) -> None:
+        """It says its timetable, and ends with tables."""
+        members = [
+            {"name": "ana", "account": 1, "ticks": 100, "lines": ["buy,1,1,put,10,5,1,1"]},
+            {"name": "eva", "account": 2, "ticks": 100, "lines": ["sell,2,1,put,12,4,1,1"]},
+        ]
+        steps = [(1, "clear,1,100"), (2, "settle,1,8"), (3, "end")]
+        setting = {
+            "markets": [{"market": 1, "underlyings": 1}],
+            "members": members,
+            "timetable": [{"at": at, "line": line} for at, line in steps],
+        }
+        process, _ = self.up(setting)
+        self.assertEqual(process.wait(120), 0)
+        read = "import sys, ragvismo; it = ragvismo.JournalFrames.read(sys.argv[1])"
+        tell = "print(*it.batches.surplus, *it.payouts.amount)"
+        words = [sys.executable, "-c", f"{read}; {tell}", str(self.folder / "all/tables")]
+        environment = {**os.environ, "PYTHONPATH": str(TOP / "python")}
+        ran = subprocess.run(words, env=environment, capture_output=True, text=True, check=True)
+        self.assertEqual(ran.stdout, "5/3 2 -4\n")
+
+    def test_what_tells_no_exchange(self) -> None:
+        for setting in ([], {"market": []}, {"members": [{"name": "<b>", "account": 1}]}):
+            path = self.folder / "setting.json"
+            path.write_text(json.dumps(setting))
+            words = [str(WEB / "up"), str(self.folder / "all"), "--program", str(PROGRAM)]
+            words += ["--experiment", str(path)]
+            ran = subprocess.run(words, capture_output=True, text=True)
+            self.assertEqual((ran.returncode, ran.stderr.count("\n")), (2, 1), ran.stderr)

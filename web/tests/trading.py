@@ -1,4 +1,4 @@
-"""An exchange of its own for tests: a Redis, a sequencer and a gateway, which may be killed."""
+"""An exchange of its own for tests, whose parts may be killed."""
 
 from __future__ import annotations
 
@@ -101,7 +101,7 @@ class Visitor:
 
 @unittest.skipIf(IS_SKIPPED, WHY)
 class Trading(Together):
-    """A Redis, a sequencer and a gateway with an operator and three traders."""
+    """A Redis, a sequencer, a follower and a gateway with an operator and three traders."""
 
     folder: pathlib.Path
     running: dict[str, subprocess.Popen[bytes]]
@@ -110,17 +110,22 @@ class Trading(Together):
     port: int
 
     @classmethod
-    def setUpClass(cls) -> None:
+    def take_place(cls) -> None:
+        """A folder and ports, and that all is ended at the end."""
         held = tempfile.TemporaryDirectory(prefix="ragvismo-web-", ignore_cleanup_errors=True)
         cls.addClassCleanup(held.cleanup)
         cls.folder, cls.running, cls.cookies = pathlib.Path(held.name), {}, {}
         cls.redis_port, cls.port = free_port(), free_port()
         cls.addClassCleanup(cls.stop)
+
+    @classmethod
+    def setUpClass(cls) -> None:
+        cls.take_place()
         members = Members(cls.folder / FILE)
         for name in ("operator", "ana", "ben", "eva"):
             members.add(name, "operator" if name == "operator" else "trader", SECRET)
         members.close()
-        for part in ("redis", "sequencer", "gateway"):
+        for part in ("redis", "sequencer", "follower", "gateway"):
             cls.start(part)
 
     @classmethod
@@ -132,6 +137,8 @@ class Trading(Together):
             return ["redis-server", *where, *log]
         if part == "sequencer":
             return [TOP / "service/sequencer", *at, "--program", PROGRAM]
+        if part == "follower":
+            return [TOP / "service/follower", *at, "--program", PROGRAM]
         return [WEB / "gateway", cls.folder, *at, "--listen", f"127.0.0.1:{cls.port}"]
 
     @classmethod
@@ -139,7 +146,7 @@ class Trading(Together):
         with open(cls.folder / f"{part}.log", "ab") as log:
             words = [str(word) for word in cls.words(part)]
             cls.running[part] = subprocess.Popen(words, stdout=log, stderr=log)
-        if part != "sequencer":
+        if part in ("redis", "gateway"):
             wait_for(cls.port if part == "gateway" else cls.redis_port)
 
     @classmethod
