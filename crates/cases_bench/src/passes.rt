@@ -4,9 +4,10 @@ ghost use Rattle.command_text.specs.Within.{BodyIsWithin};
 
 use anyhow::{Context, Result, bail};
 use byte_streams::{StdSource, SureSink, read_all};
-use command_text::{Body, Command, commands};
+use command_text::{Body, Command};
 use exchange_core::{Exchange, Reply};
 use frac::Frac64;
+use input_commands::commands;
 use limits::MAX_BYTES;
 use narrow_clearing::{Pass, clear_first};
 use std::alloc::Global;

@@ -2,9 +2,10 @@
 ghost use Rattle.command_text.specs.Within.{IsWithin};
 
 use anyhow::{Result, bail, ensure};
-use command_text::{Body, Command, commands};
+use command_text::{Body, Command};
 use exact_num::Exact;
 use exchange_core::{Exchange, Reply};
+use input_commands::commands;
 use std::alloc::{AllocError, Global};
 
 // A session with clears and settlements on one and on two underlyings.

@@ -6,9 +6,10 @@ ghost use Rattle.command_text.specs.Within.{BodyIsWithin};
 
 use crate::cases::PASSES;
 use anyhow::{Context, Result, bail, ensure};
-use command_text::{Body, Command, commands};
+use command_text::{Body, Command};
 use exact_num::Exact;
 use form::Batch;
+use input_commands::commands;
 use limits::MAX_BYTES;
 use narrow_clearing::{Pass, Room, clear_in};
 use order_book::{Book, NewOrder};

@@ -12,7 +12,8 @@ use crate::signs::is_none_below_zero;
 use exact_num::{Exact, Operator, Wide};
 use frac::{Frac64, Frac128};
 use fraction_tableau::MAX_SIDE;
-use simplex::{Budget, Program, RunStop, Solved, Space, Stop, choices, solve};
+use linear_programs::{Program, Solved, choices, solve};
+use simplex::{Budget, RunStop, Space, Stop};
 use std::alloc::{AllocError, Global};
 use std::test::Fail;
 

@@ -15,7 +15,7 @@ use Rattle.clearing_model.specs.Certificate.{Point, by_of, fraction_weight, frac
 use Rattle.clearing_model.specs.Written.{multipliers_of}
 use Rattle.master_program.specs.Reading.{Reading, reading_with}
 use Rattle.constraint_generation.specs.Answers.{limits_of}
-use Rattle.constraint_generation.specs.Run.{Solution, by_line, by_tree}
+use Rattle.constraint_generation.specs.Run.{CoveredReading, by_line, by_tree}
 use Rattle.constraint_generation.proofs.JointRuns.{no_run_is_without_end}
 use Rattle.run_values.specs.Values.{Ends, IsPointOf, IsReadingOf, IsSolutionOf, IsValue}
 use Rattle.run_values.proofs.Solutions.{runs_have_values}
@@ -52,18 +52,18 @@ reading_has r numbers =
     let measured = weights_are r.measure numbers.points in
     rw (liability, surplus, filled, measured) refl
 
-solution_has : (s : Solution) → IsSolutionOf s → has_values s ≡ true
+solution_has : (s : CoveredReading) → IsSolutionOf s → has_values s ≡ true
 solution_has (r, by_line) of = let read = reading_has r of.0 in rw read refl
 solution_has (r, by_tree tree) of =
     let read = reading_has r of.0 in
     let covered = values_are (fractions_of tree) (All-map IsValue by_of (multipliers_of tree) (by_values 1024 tree of.1)) in
     rw (read, covered) refl
 
-run_has_values : (batch : Batch) (units spent : ℕ) (s : Solution) → IsWithinLimits batch → run_of batch units ≡ done s spent → has_values s ≡ true
+run_has_values : (batch : Batch) (units spent : ℕ) (s : CoveredReading) → IsWithinLimits batch → run_of batch units ≡ done s spent → has_values s ≡ true
 run_has_values batch units spent s within h = solution_has s (subst (Ends IsSolutionOf) h (runs_have_values batch units within))
 
 -- ---- the mark
-at_end : (batch : Batch) (units : ℕ) (end : Ending Solution) → IsWithinLimits batch → run_of batch units ≡ end → IsMarked batch units (outcome_at batch.orders units end)
+at_end : (batch : Batch) (units : ℕ) (end : Ending CoveredReading) → IsWithinLimits batch → run_of batch units ≡ end → IsMarked batch units (outcome_at batch.orders units end)
 unfolding optimal_outcome
 at_end batch units (done (r, cover) spent) within is =
     let test = run_has_values batch units spent (r, cover) within is in

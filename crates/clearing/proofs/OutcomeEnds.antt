@@ -11,7 +11,7 @@ use Rattle.bundle_match.specs.Laws.{match_of}
 use Rattle.simplex.specs.declared.stop.Stop.{Stop}
 use Rattle.simplex.specs.declared.stop.Stop.TheVariants.{Wide as WideStop, Budget as BudgetStop}
 use Rattle.constraint_generation.specs.Answers.{IsCoverAs, IsJointAnswer}
-use Rattle.constraint_generation.specs.Run.{WrittenCover, Solution}
+use Rattle.constraint_generation.specs.Run.{WrittenCover, CoveredReading}
 use Rattle.simplex_run.specs.Ending.{Ending, done, wide_at, no_unit_left}
 use Rattle.frac.specs.declared.frac128.Frac128.{Frac128}
 use Rattle.frac.specs.Value.{fraction_of}
@@ -55,7 +55,7 @@ unfolding fallback
 fallback-parts orders mark units fills L S e eL eS = rw (eS, eL, e) refl
 
 -- ---- the outcome at each end of the run
-pub outcome_of-done : (batch : Batch) (units spent : ℕ) (s : Solution) → run_of batch units ≡ done s spent → has_values s ≡ true → optimal_outcome s spent ≡ outcome_of batch units
+pub outcome_of-done : (batch : Batch) (units spent : ℕ) (s : CoveredReading) → run_of batch units ≡ done s spent → has_values s ≡ true → optimal_outcome s spent ≡ outcome_of batch units
 unfolding outcome_of
 outcome_of-done batch units spent s run test = rw (run, test) refl
 
@@ -77,8 +77,8 @@ unfolding fallback
 IsMarked-no_unit_left batch units spent run = ((spent, run), refl)
 
 -- what an answer of a stop says
-pub IsJointAnswer-wide : (end : Ending Solution) (stop : Stop) (unit : ℕ) (w : Misfit) (spent : ℕ) → stop ≡ WideStop unit w → IsJointAnswer fraction_of end (Err stop) spent → end ≡ wide_at unit w
+pub IsJointAnswer-wide : (end : Ending CoveredReading) (stop : Stop) (unit : ℕ) (w : Misfit) (spent : ℕ) → stop ≡ WideStop unit w → IsJointAnswer fraction_of end (Err stop) spent → end ≡ wide_at unit w
 IsJointAnswer-wide end stop unit w spent is h = (subst (λ s. IsJointAnswer fraction_of end (Err s) spent) is h).0
 
-pub IsJointAnswer-budget : {A : Type 0} (value : A → Fraction) (end : Ending Solution) (stop : Stop) (spent : ℕ) → stop ≡ BudgetStop → IsJointAnswer value end (Err stop) spent → end ≡ no_unit_left spent
+pub IsJointAnswer-budget : {A : Type 0} (value : A → Fraction) (end : Ending CoveredReading) (stop : Stop) (spent : ℕ) → stop ≡ BudgetStop → IsJointAnswer value end (Err stop) spent → end ≡ no_unit_left spent
 IsJointAnswer-budget value end stop spent is h = subst (λ s. IsJointAnswer value end (Err s) spent) is h

@@ -41,7 +41,7 @@ use Rattle.constraint_generation.proofs.Rounds.{rounds_are_not_refused}
 use Rattle.constraint_generation.proofs.JointRuns.{cleared_is_greatest}
 use Rattle.constraint_generation.specs.Answers.{IsCoverAs, limits_of}
 use Rattle.constraint_generation.specs.Laws.{IsGreatestBy}
-use Rattle.constraint_generation.specs.Run.{WrittenCover, by_line, by_tree, Solution}
+use Rattle.constraint_generation.specs.Run.{WrittenCover, by_line, by_tree, CoveredReading}
 use Rattle.simplex_run.specs.Ending.{Ending, done, wide_at, no_unit_left, unbounded}
 use Rattle.clearing.specs.Outcome.{weighted_of, measure_of, tree_of, cover_of, optimal_outcome, fallback, is_value, are_values, multipliers_in, reading_has_values, has_values, outcome_at, run_of, outcome_of}
 use Rattle.clearing.specs.Laws.{OutcomesMeetAll, OutcomesAreWithin, OutcomesAreCovered, OutcomesAreMeasured, OptimalIsGreatest}
@@ -176,17 +176,17 @@ MeetsAll batch outcome = All (Meets batch outcome) conditions
 all_met : (batch : Batch) (outcome : Outcome) → ((condition : No) → Meets batch outcome condition) → MeetsAll batch outcome
 all_met batch outcome each k d lt = each (get_or conditions k d)
 
-at_cleared : (batch : Batch) (units spent : ℕ) (s : Solution) (test : Bool) → has_values s ≡ test → IsWithinLimits batch → IsGreatestBy batch.underlyings batch.orders s
+at_cleared : (batch : Batch) (units spent : ℕ) (s : CoveredReading) (test : Bool) → has_values s ≡ test → IsWithinLimits batch → IsGreatestBy batch.underlyings batch.orders s
     → MeetsAll batch (if test then optimal_outcome s spent else fallback batch.orders Budget units)
 at_cleared batch units spent s true is within greatest = (optimal_outcome-not_refused batch s.0 s.1 spent within greatest is).meets
 at_cleared batch units spent s false is within greatest = all_met batch _ (budget_meets batch units within)
 
 -- what the run of a batch clears is the greatest
-pub run_is_greatest : (batch : Batch) (units spent : ℕ) (s : Solution) → IsWithinLimits batch → run_of batch units ≡ done s spent → IsGreatestBy batch.underlyings batch.orders s
+pub run_is_greatest : (batch : Batch) (units spent : ℕ) (s : CoveredReading) → IsWithinLimits batch → run_of batch units ≡ done s spent → IsGreatestBy batch.underlyings batch.orders s
 run_is_greatest batch units spent s within is =
     cleared_is_greatest (limits_of largest units) batch.underlyings 0 spent batch.orders s within.has_forms.some within.has_forms.few (omega arith) is
 
-at_end : (batch : Batch) (units : ℕ) (end : Ending Solution) → IsWithinLimits batch → run_of batch units ≡ end → MeetsAll batch (outcome_at batch.orders units end)
+at_end : (batch : Batch) (units : ℕ) (end : Ending CoveredReading) → IsWithinLimits batch → run_of batch units ≡ end → MeetsAll batch (outcome_at batch.orders units end)
 at_end batch units (done s spent) within is = at_cleared batch units spent s (has_values s) refl within (run_is_greatest batch units spent s within is)
 at_end batch units (wide_at spent w) within is = all_met batch _ (wide_meets batch w spent within)
 at_end batch units (no_unit_left spent) within is = all_met batch _ (budget_meets batch units within)

@@ -23,7 +23,7 @@ use Rattle.cert_check.proofs.Yes.{said}
 use Rattle.bundle_match.specs.Match.{match_by_bundle}
 use Rattle.constraint_generation.proofs.JointRuns.{cleared_passes_the_verdict}
 use Rattle.constraint_generation.specs.Answers.{limits_of}
-use Rattle.constraint_generation.specs.Run.{Solution}
+use Rattle.constraint_generation.specs.Run.{CoveredReading}
 use Rattle.simplex_run.specs.Ending.{Ending, done, wide_at, no_unit_left, unbounded}
 use Rattle.clearing.specs.Outcome.{measure_of, cover_of, optimal_outcome, fallback, has_values, outcome_at, run_of, outcome_of}
 use Rattle.clearing.specs.Laws.{OutcomesAreJudgedYes}
@@ -32,7 +32,7 @@ use Rattle.clearing.proofs.Judged.{not_wide, after_fills, is_yes}
 use Rattle.clearing.proofs.Outcomes.{IsFallback, is_fallback, amounts_small, wide_meets, budget_meets, claims_the_reading, covers_the_reading, run_is_greatest, are_on}
 
 -- ---- what a run clears
-optimal_outcome-yes : (batch : Batch) (s : Solution) (units spent : ℕ) → IsWithinLimits batch → has_values s ≡ true → run_of batch units ≡ done s spent → verdict_of largest batch (optimal_outcome s spent) ≡ Yes
+optimal_outcome-yes : (batch : Batch) (s : CoveredReading) (units spent : ℕ) → IsWithinLimits batch → has_values s ≡ true → run_of batch units ≡ done s spent → verdict_of largest batch (optimal_outcome s spent) ≡ Yes
 optimal_outcome-yes batch (r, cover) units spent within test run =
     cleared_passes_the_verdict (limits_of largest units) 0 spent batch (r, cover) within.has_forms.some within.has_forms.few (are_on batch within) (omega arith) refl run
     (cover_of cover) (covers_the_reading r cover test) (optimal_outcome (r, cover) spent) (measure_of r.measure)
@@ -76,12 +76,12 @@ budget_is_yes batch units within =
     (λ v. after_fills batch outcome v (not_wide no.Cover (cover_condition_holds largest batch outcome) Yes v (λ u e. cover_fits batch outcome u within (is_fallback batch Budget units within) refl e) (λ holds e. cc)))
 
 -- ---- each outcome
-at_cleared : (batch : Batch) (units spent : ℕ) (s : Solution) (test : Bool) → has_values s ≡ test → IsWithinLimits batch → run_of batch units ≡ done s spent
+at_cleared : (batch : Batch) (units spent : ℕ) (s : CoveredReading) (test : Bool) → has_values s ≡ test → IsWithinLimits batch → run_of batch units ≡ done s spent
     → verdict_of largest batch (if test then optimal_outcome s spent else fallback batch.orders Budget units) ≡ Yes
 at_cleared batch units spent s true is within run = optimal_outcome-yes batch s units spent within is run
 at_cleared batch units spent s false is within run = budget_is_yes batch units within
 
-at_end : (batch : Batch) (units : ℕ) (end : Ending Solution) → IsWithinLimits batch → run_of batch units ≡ end → verdict_of largest batch (outcome_at batch.orders units end) ≡ Yes
+at_end : (batch : Batch) (units : ℕ) (end : Ending CoveredReading) → IsWithinLimits batch → run_of batch units ≡ end → verdict_of largest batch (outcome_at batch.orders units end) ≡ Yes
 at_end batch units (done s spent) within is = at_cleared batch units spent s (has_values s) refl within is
 at_end batch units (wide_at spent w) within is = wide_is_yes batch w spent within
 at_end batch units (no_unit_left spent) within is = budget_is_yes batch units within

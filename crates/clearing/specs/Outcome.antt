@@ -27,10 +27,10 @@ use Rattle.cert_check.specs.declared.outcome.Outcome.{Outcome}
 use Rattle.bundle_match.specs.Match.{match_by_bundle}
 use Rattle.bundle_match.specs.Laws.{match_of}
 use Rattle.master_program.specs.Reading.{Reading}
-use Rattle.constraint_generation.specs.declared.joint.Joint.{Joint}
+use Rattle.constraint_generation.specs.declared.solution.Solution.{Solution}
 use Rattle.constraint_generation.specs.Answers.{IsCoverAs, claimed_in, limits_of, reading_in}
 use Rattle.constraint_generation.specs.Laws.{choices_of}
-use Rattle.constraint_generation.specs.Run.{WrittenCover, by_line, by_tree, Solution, joint_run, sums_of}
+use Rattle.constraint_generation.specs.Run.{WrittenCover, by_line, by_tree, CoveredReading, joint_run, sums_of}
 use Rattle.simplex_run.specs.Ending.{Ending, done, wide_at, no_unit_left, unbounded, on_answer, where_fits}
 
 -- a point of the model as one of the code
@@ -56,7 +56,7 @@ cover_of by_line = Line
 cover_of (by_tree tree) = Tree (tree_of tree)
 
 -- what a run clears, with its cover and the measure that proves it
-unfoldable pub optimal_outcome : Solution → ℕ → Outcome
+unfoldable pub optimal_outcome : CoveredReading → ℕ → Outcome
 optimal_outcome (r, cover) units =
     record {
       fills = map value_of r.fills;
@@ -66,7 +66,7 @@ optimal_outcome (r, cover) units =
     }
 
 -- the outcome is what a joint solve of the code has found
-abbrev pub IsOptimalOutcome : Joint Frac128 → ℕ → Outcome → Type 0
+abbrev pub IsOptimalOutcome : Solution Frac128 → ℕ → Outcome → Type 0
 IsOptimalOutcome joint units outcome =
     (cover : WrittenCover) → IsCoverAs cover joint.cover → outcome ≡ optimal_outcome (reading_in fraction_of joint, cover) units
 
@@ -100,24 +100,24 @@ abbrev pub reading_has_values : Reading → Bool
 reading_has_values r =
     (is_value r.liability && is_value r.surplus) && (are_values r.fills && are_values (map fraction_weight r.measure))
 
-abbrev pub has_values : Solution → Bool
+abbrev pub has_values : CoveredReading → Bool
 has_values (r, cover) = reading_has_values r && are_values (multipliers_in cover)
 
 -- the outcome at the end of a run with a limit on its units. An end without an optimum, and a
 -- solution whose numbers are not all numbers of the code, have the match too: no answer of a clear
 -- comes from them
-abbrev pub outcome_at : List Order → ℕ → Ending Solution → Outcome
+abbrev pub outcome_at : List Order → ℕ → Ending CoveredReading → Outcome
 outcome_at orders units (done s spent) = if has_values s then optimal_outcome s spent else fallback orders Budget units
 outcome_at orders units (wide_at spent wide) = fallback orders (Wide wide) spent
 outcome_at orders units (no_unit_left spent) = fallback orders Budget units
 outcome_at orders units (unbounded d spent) = fallback orders Budget units
 
 -- the end of a run of the batch after the sums of the verdict
-abbrev pub judged : Batch → Ending Solution → Ending Solution
+abbrev pub judged : Batch → Ending CoveredReading → Ending CoveredReading
 judged batch end = on_answer end (where_fits (sums_of largest batch.underlyings batch.orders))
 
 -- the run of a batch with at most so many units
-abbrev pub run_of : Batch → ℕ → Ending Solution
+abbrev pub run_of : Batch → ℕ → Ending CoveredReading
 run_of batch units = joint_run (limits_of largest units) batch.underlyings batch.orders 0
 
 -- the outcome of a batch, with at most so many units
@@ -129,13 +129,13 @@ abbrev pub claim_of : Outcome → Measure → Reading
 claim_of outcome measure = claimed_in (map fraction_of outcome.fills) outcome.claim measure
 
 -- the run cleared what an outcome with this cover and this measure claims
-abbrev pub HasCleared : Ending Solution → Outcome → Cover → Measure → Type 0
+abbrev pub HasCleared : Ending CoveredReading → Outcome → Cover → Measure → Type 0
 HasCleared end outcome cover measure =
     (written : WrittenCover) × IsCoverAs written cover × (end ≡ done (claim_of outcome measure, written) outcome.units)
 
 -- the mark of an outcome and its units are those of the end of the run: what was cleared, the step
 -- that did not fit, or a unit wanted beyond the limit
-abbrev pub EndsAs : Ending Solution → ℕ → Outcome → Mark → Type 0
+abbrev pub EndsAs : Ending CoveredReading → ℕ → Outcome → Mark → Type 0
 EndsAs end units outcome (Optimal cover measure) = HasCleared end outcome cover measure
 EndsAs end units outcome (Wide wide) = end ≡ wide_at outcome.units wide
 EndsAs end units outcome Budget = ((spent : ℕ) × (end ≡ no_unit_left spent)) × (outcome.units ≡ units)

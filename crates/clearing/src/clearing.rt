@@ -11,8 +11,8 @@ ghost use Rattle.cert_check.specs.Conditions.{IfOptimal};
 ghost use Rattle.cert_check.specs.Events.{verdict_of};
 ghost use Rattle.cert_check.specs.Laws.{IsCovered, IsMeasured, IsProved};
 ghost use Rattle.cert_check.specs.Tests.{AreSigns};
-ghost use Rattle.constraint_generation.specs.Answers.{IsJointAnswer, IsJointOf, as_stopped};
-ghost use Rattle.constraint_generation.specs.Run.{Solution};
+ghost use Rattle.constraint_generation.specs.Answers.{IsJointAnswer, IsJointOf, IsJudgedAnswer, as_stopped};
+ghost use Rattle.constraint_generation.specs.Run.{CoveredReading};
 ghost use Rattle.simplex_run.specs.Ending.{Ending};
 ghost use Rattle.clearing.specs.Outcome.{HasEnoughUnits, IsMarked, IsOptimalOutcome, judged, outcome_of, run_of};
 ghost use Rattle.clearing.specs.Rooms.{IsClearRoom, IsEndRoom, IsMatchOf};
@@ -20,17 +20,17 @@ ghost use Rattle.clearing.specs.Rooms.{IsClearRoom, IsEndRoom, IsMatchOf};
 use crate::fallback::{Matched, fallback};
 use crate::room::ClearRoom;
 use cert_check::{Claim, Fills, Mark, Outcome};
-use constraint_generation::{Joint, judge};
+use constraint_generation::{Solution, tests_hold};
 use form::Batch;
 use frac::Frac128;
 use simplex::{Budget, RunStop};
 use std::alloc::{AllocError, Global};
 
 /// What a solve found, as the outcome that it proves.
-fn optimal_outcome(joint: Joint<Frac128>, units: u32) -> Outcome
+fn optimal_outcome(joint: Solution<Frac128>, units: u32) -> Outcome
     ensures { IsOptimalOutcome joint units result }
 {
-    let Joint {
+    let Solution {
         fills,
         liability,
         surplus,
@@ -48,7 +48,7 @@ fn optimal_outcome(joint: Joint<Frac128>, units: u32) -> Outcome
 /// The outcome at the end of a run with at most `limit` units, of which `units` are spent.
 fn outcome_at(
     limit: u32,
-    end: Result<Joint<Frac128>, RunStop>,
+    end: Result<Solution<Frac128>, RunStop>,
     units: u32,
     matched: Matched,
 ) -> Outcome
@@ -63,18 +63,49 @@ fn outcome_at(
     }
 }
 
+/// The sums of the verdict on a solution, with a sign for each leg to work in: the solution, where
+/// each step fits; `unit` units are spent. `Wide` comes at the first step that does not fit. It
+/// takes no memory.
+fn judge(
+    batch: &Batch,
+    joint: Solution<Frac128>,
+    unit: u32,
+    signs: &mut [i8],
+) -> Result<Solution<Frac128>, RunStop>
+    requires limits { IsWithinLimits batch.now }
+    requires joint { IsJointOf batch.now joint }
+    requires signs { AreSigns batch.now.orders (length signs.old) }
+    ensures { IsJudgedAnswer fraction_of batch.now joint (as_stopped result) unit }
+{
+    let claim = Claim {
+        liability: joint.liability,
+        surplus: joint.surplus,
+    };
+    match tests_hold(
+        batch,
+        &joint.fills,
+        &claim,
+        &joint.cover,
+        &joint.measure,
+        signs,
+    ) {
+        Ok(_) => Ok(joint),
+        Err(wide) => Err(RunStop::Wide { unit, wide }),
+    }
+}
+
 /// The end of a run after the sums of the verdict, which are done where it has found a solution;
 /// `units` are spent.
 fn judged(
     batch: &Batch,
-    solved: Result<Joint<Frac128>, RunStop>,
+    solved: Result<Solution<Frac128>, RunStop>,
     units: u32,
     signs: &mut [i8],
-) -> Result<Joint<Frac128>, RunStop>
+) -> Result<Solution<Frac128>, RunStop>
     requires within { IsWithinLimits batch.now }
     requires joint { IfOk solved (IsJointOf batch.now) }
     requires signs { AreSigns batch.now.orders (length signs.old) }
-    ensures { (end : Ending Solution) → IsJointAnswer fraction_of end (as_stopped solved) units
+    ensures { (end : Ending CoveredReading) → IsJointAnswer fraction_of end (as_stopped solved) units
         → IsJointAnswer fraction_of (judged batch.now end) (as_stopped result) units }
 {
     judge(batch, solved?, units, signs)
@@ -103,13 +134,13 @@ impl ClearRoom {
         &mut self,
         batch: &Batch,
         limit: u32,
-        solved: Result<Joint<Frac128>, RunStop>,
+        solved: Result<Solution<Frac128>, RunStop>,
         units: u32,
     ) -> Outcome
         requires within { IsWithinLimits batch.now }
         requires joint { IfOk solved (IsJointOf batch.now) }
         requires room { IsEndRoom batch.now self.old }
-        ensures { (end : Ending Solution) → IsJointAnswer fraction_of end (as_stopped solved) units
+        ensures { (end : Ending CoveredReading) → IsJointAnswer fraction_of end (as_stopped solved) units
             → run_of batch.now limit ≡ judged batch.now end → result ≡ outcome_of batch.now limit }
     {
         let end = judged(batch, solved, units, &mut self.signs);
@@ -143,7 +174,7 @@ pub fn clear(alloc: Global, batch: &Batch, limit: u32) -> Result<Outcome, AllocE
 
     ensures yes { IfOk result (λ outcome. verdict_of largest batch.now outcome ≡ Yes) }
 
-    // On one underlying, with at least as many units as `simplex::choices` has for the batch's
+    // On one underlying, with at least as many units as `linear_programs::choices` has for the batch's
     // master program, the mark is not budget.
     ensures choices { IfOk result (HasEnoughUnits batch.now limit) }
 {

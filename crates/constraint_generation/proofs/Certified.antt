@@ -17,13 +17,13 @@ use Rattle.master_program.specs.Reading.{Reading}
 use Rattle.master_program.specs.Solve.{master_solve}
 use Rattle.master_program.specs.Verdict.{sums_on, sums_with}
 use Rattle.master_program.specs.Rounds.{Limits, rounds}
-use Rattle.constraint_generation.specs.declared.joint.Joint.{Joint}
+use Rattle.constraint_generation.specs.declared.solution.Solution.{Solution}
 use Rattle.constraint_generation.specs.Answers.{IsCoverAs, IsJointAnswer, IsJudgedAnswer, OfSolution, reading_in}
-use Rattle.constraint_generation.specs.Run.{Solution, WrittenCover, by_line, by_tree, on_line, on_tree, sums_of, unjudged_run, joint_run}
+use Rattle.constraint_generation.specs.Run.{CoveredReading, WrittenCover, by_line, by_tree, on_line, on_tree, sums_of, unjudged_run, joint_run}
 use Rattle.constraint_generation.proofs.JointRuns.{cleared_by}
 
-pub joint_answer_as : {A : Type 0} (value : A → Fraction) (whole ending : Ending Solution) (result : Result (Joint A) Stop) (spent : ℕ) → whole ≡ ending → IsJointAnswer value ending result spent → IsJointAnswer value whole result spent
-joint_answer_as {A} value whole ending result spent e is = subst (λ (x : Ending Solution). IsJointAnswer value x result spent) (sym e) is
+pub joint_answer_as : {A : Type 0} (value : A → Fraction) (whole ending : Ending CoveredReading) (result : Result (Solution A) Stop) (spent : ℕ) → whole ≡ ending → IsJointAnswer value ending result spent → IsJointAnswer value whole result spent
+joint_answer_as {A} value whole ending result spent e is = subst (λ (x : Ending CoveredReading). IsJointAnswer value x result spent) (sym e) is
 
 -- ---- before the sums, on one underlying
 pub on_one : (limits : Limits) (n : ℕ) (orders : List Order) (spent : ℕ) (states : List (List ℕ)) → n ≡ 1 → states ≡ later_states orders
@@ -57,19 +57,19 @@ same_sums batch r (by_tree written) (Tree tree) is =
     λ j. sums_with largest batch.orders r (closes_of largest batch.underlyings (fraction_legs batch.orders r.fills) r.liability (sym is.0 j) (sym is.1 j))
 
 -- a solution whose sums fit
-pub passed : {A : Type 0} (value : A → Fraction) (batch : Batch) (joint : Joint A) (spent : ℕ) (holds : Bool)
+pub passed : {A : Type 0} (value : A → Fraction) (batch : Batch) (joint : Solution A) (spent : ℕ) (holds : Bool)
     → sums_on batch (reading_in value joint) joint.cover ≡ Ok holds → IsJudgedAnswer value batch joint (Ok joint) spent
 passed value batch joint spent holds fits written is =
     let r = reading_in value joint in
-    let ended : Result Bool Misfit → Ending Solution = cleared_by spent r written in
+    let ended : Result Bool Misfit → Ending CoveredReading = cleared_by spent r written in
     (written, is, ap ended (same_sums batch r written joint.cover is ∙ fits))
 
 -- and one of which a step does not fit
-pub not_passed : {A : Type 0} (value : A → Fraction) (batch : Batch) (joint : Joint A) (spent : ℕ) (w : Misfit)
+pub not_passed : {A : Type 0} (value : A → Fraction) (batch : Batch) (joint : Solution A) (spent : ℕ) (w : Misfit)
     → sums_on batch (reading_in value joint) joint.cover ≡ Err w → IsJudgedAnswer value batch joint (Err (Wide spent w)) spent
 not_passed value batch joint spent w fits written is =
     let r = reading_in value joint in
-    let ended : Result Bool Misfit → Ending Solution = cleared_by spent r written in
+    let ended : Result Bool Misfit → Ending CoveredReading = cleared_by spent r written in
     (ap ended (same_sums batch r written joint.cover is ∙ fits), refl)
 
 -- ---- the whole run
@@ -78,16 +78,16 @@ unfolding joint_run
 then_sums limits n orders spent = refl
 
 -- a run that stops before the sums stops,
-pub stops_before : {A : Type 0} (value : A → Fraction) (whole ending : Ending Solution) (next : Solution → ℕ → Ending Solution) (stop : Stop) (units : ℕ)
+pub stops_before : {A : Type 0} (value : A → Fraction) (whole ending : Ending CoveredReading) (next : CoveredReading → ℕ → Ending CoveredReading) (stop : Stop) (units : ℕ)
     → whole ≡ on_answer ending next → IsJointAnswer value ending (Err stop) units → IsJointAnswer value whole (Err stop) units
-stops_before value whole ending next (Wide unit w) units e is = let go : Ending Solution → Ending Solution = λ x. on_answer x next in (e ∙ ap go is.0, is.1)
-stops_before value whole ending next Budget units e is = let go : Ending Solution → Ending Solution = λ x. on_answer x next in e ∙ ap go is
+stops_before value whole ending next (Wide unit w) units e is = let go : Ending CoveredReading → Ending CoveredReading = λ x. on_answer x next in (e ∙ ap go is.0, is.1)
+stops_before value whole ending next Budget units e is = let go : Ending CoveredReading → Ending CoveredReading = λ x. on_answer x next in e ∙ ap go is
 stops_before value whole ending next Memory units e is = tt
 
 -- and one that does not is judged
-pub judged_after : {A : Type 0} (value : A → Fraction) (batch : Batch) (whole ending : Ending Solution) (joint : Joint A) (result : Result (Joint A) Stop) (units : ℕ)
+pub judged_after : {A : Type 0} (value : A → Fraction) (batch : Batch) (whole ending : Ending CoveredReading) (joint : Solution A) (result : Result (Solution A) Stop) (units : ℕ)
     → whole ≡ on_answer ending (where_fits (sums_of largest batch.underlyings batch.orders)) → OfSolution value (λ s. ending ≡ done s units) joint
     → IsJudgedAnswer value batch joint result units → IsJointAnswer value whole result units
 judged_after value batch whole ending joint result units e found judged =
-    let go : Ending Solution → Ending Solution = λ x. on_answer x (where_fits (sums_of largest batch.underlyings batch.orders)) in
+    let go : Ending CoveredReading → Ending CoveredReading = λ x. on_answer x (where_fits (sums_of largest batch.underlyings batch.orders)) in
     joint_answer_as value whole _ result units (e ∙ ap go found.2) (judged found.0 found.1)

@@ -1,8 +1,7 @@
 -- What the reference run clears, on one underlying and on several.
-use Rattle.std.proofs.Common.{◌≡◌, ℕ, zero, suc, ◌≤◌, ◌<◌, ◌-◌, ◌==◌, List, Bool, true, false, if◌then◌else◌, IfOk, Result, Ok, Err, refl, subst, arith}
+use Rattle.std.proofs.Common.{◌≡◌, ℕ, zero, suc, ◌≤◌, ◌<◌, ◌-◌, ◌==◌, List, Bool, true, false, if◌then◌else◌, Result, Ok, Err, refl, subst, arith}
 use Rattle.std.proofs.lemmas.Bool.{eqb-true}
 use Rattle.exact_num.specs.Fraction.{Fraction}
-use Rattle.frac.specs.Range.{limit}
 use Rattle.exact_num.specs.declared.misfit.Wide.{Wide as Misfit}
 use Rattle.simplex_run.specs.Ending.{Ending, done, unbounded, wide_at, no_unit_left, on_answer, on_steps, where_fits}
 use Rattle.simplex_run.proofs.Endings.{on_answer-done}
@@ -18,22 +17,20 @@ use Rattle.master_program.specs.Solve.{master_solve}
 use Rattle.master_program.specs.Rounds.{Limits, Cleared, rounds}
 use Rattle.search_laws.specs.Run.{tree_run, sums_hold as tree_sums}
 use Rattle.search_laws.proofs.Run.{cleared_is_greatest as tree_is_greatest, each_run_ends as tree_run_ends, cleared_passes_the_verdict as tree_passes}
-use Rattle.simplex.specs.declared.stop.Stop.{Stop}
-use Rattle.constraint_generation.specs.declared.joint.Joint.{Joint}
-use Rattle.constraint_generation.specs.Answers.{IsCoverAs, IsJointAnswer, OfSolution, reading_in}
+use Rattle.constraint_generation.specs.Answers.{IsCoverAs}
 use Rattle.constraint_generation.specs.Laws.{IsGreatestBy, IsYesWith, PassesTheVerdict, ClearedIsGreatest, NoRunIsWithoutEnd, ClearedPassesTheVerdict}
-use Rattle.constraint_generation.specs.Run.{Solution, WrittenCover, by_line, by_tree, on_line, on_tree, line_run, sums_hold, sums_of, joint_run}
+use Rattle.constraint_generation.specs.Run.{CoveredReading, WrittenCover, by_line, by_tree, on_line, on_tree, line_run, sums_hold, sums_of, joint_run}
 use Rattle.constraint_generation.proofs.Cleared.{line_run_is_greatest, line_run_ends, line_run_passes}
 
 -- ---- the run by cases
 abbrev pub the_line : Limits → List Order → ℕ → Ending Reading
 the_line limits orders spent = line_run limits.payoff_limit limits.limit (limits.budget - spent) spent orders
 
-abbrev pub by_count : Bool → Limits → ℕ → List Order → ℕ → Ending Solution
+abbrev pub by_count : Bool → Limits → ℕ → List Order → ℕ → Ending CoveredReading
 by_count one limits n orders spent = if one then on_answer (the_line limits orders spent) on_line else on_answer (tree_run limits n orders spent) on_tree
 
 -- the sums that come last, with the cover beside what was read off
-abbrev pub cleared_by : ℕ → Reading → WrittenCover → Result Bool Misfit → Ending Solution
+abbrev pub cleared_by : ℕ → Reading → WrittenCover → Result Bool Misfit → Ending CoveredReading
 cleared_by spent r written sums = on_steps spent sums (λ b. done (r, written) spent)
 
 on_line_steps : (spent : ℕ) (r : Reading) (sums : Result Bool Misfit) → cleared_by spent r by_line sums ≡ on_answer (on_steps spent sums (λ b. done r spent)) on_line
@@ -73,10 +70,10 @@ several (suc zero) some is = cc
 several (suc (suc n)) some is = omega arith
 
 -- ---- what it clears
-on_line-is : (r : Reading) (s : Solution) (spent units : ℕ) → on_line r spent ≡ done s units → (r, by_line) ≡ s
+on_line-is : (r : Reading) (s : CoveredReading) (spent units : ℕ) → on_line r spent ≡ done s units → (r, by_line) ≡ s
 on_line-is r s spent units h = cc
 
-on_tree-is : (c : Cleared) (s : Solution) (spent units : ℕ) → on_tree c spent ≡ done s units → (c.0, by_tree c.1) ≡ s
+on_tree-is : (c : Cleared) (s : CoveredReading) (spent units : ℕ) → on_tree c spent ≡ done s units → (c.0, by_tree c.1) ≡ s
 on_tree-is c s spent units h = cc
 
 pub cleared_is_greatest : ClearedIsGreatest
@@ -133,17 +130,3 @@ cleared_passes_the_verdict limits spent units batch s some few on le wide h = by
     by false is e =
         let c = on_answer-done (tree_run limits batch.underlyings batch.orders spent) on_tree s units e in
         subst (PassesTheVerdict batch) (on_tree-is c.answer s c.spent units c.rest) (tree c.answer c.spent (several batch.underlyings some is) c.first)
-
--- ---- what the answer of a joint solve has shown
-pub answer_is_greatest : {A : Type 0} (value : A → Fraction) (limits : Limits) (n spent units : ℕ) (orders : List Order) (result : Result (Joint A) Stop)
-    → 1 ≤ n → n ≤ 8 → spent ≤ limits.budget → IsJointAnswer value (joint_run limits n orders spent) result units → IfOk result (OfSolution value (IsGreatestBy n orders))
-answer_is_greatest value limits n spent units orders (Ok joint) some few le is =
-    (is.0, is.1, cleared_is_greatest limits n spent units orders (reading_in value joint, is.0) some few le is.2)
-answer_is_greatest value limits n spent units orders (Err stop) some few le is = tt
-
-pub answer_passes : {A : Type 0} (value : A → Fraction) (limits : Limits) (spent units : ℕ) (batch : Batch) (result : Result (Joint A) Stop)
-    → 1 ≤ batch.underlyings → batch.underlyings ≤ 8 → AreOn batch.underlyings batch.orders → spent ≤ limits.budget → limits.payoff_limit ≡ limit
-    → IsJointAnswer value (joint_run limits batch.underlyings batch.orders spent) result units → IfOk result (λ joint. IsYesWith batch (reading_in value joint) joint.cover)
-answer_passes value limits spent units batch (Ok joint) some few on le wide is =
-    cleared_passes_the_verdict limits spent units batch (reading_in value joint, is.0) some few on le wide is.2 joint.cover is.1
-answer_passes value limits spent units batch (Err stop) some few on le wide is = tt

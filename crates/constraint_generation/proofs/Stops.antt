@@ -12,7 +12,7 @@ use Rattle.pricing_oracle.proofs.NodeEnds.{optimum_there}
 use Rattle.constraint_generation.specs.Answers.{IsJointAnswer}
 use Rattle.constraint_generation.specs.Optima.{optimum_of}
 use Rattle.constraint_generation.specs.Stops.{IsStopOf}
-use Rattle.constraint_generation.specs.Run.{Solution}
+use Rattle.constraint_generation.specs.Run.{CoveredReading}
 
 -- ---- a run in a space that stops, and one that does not rise
 pub run_stop : (e : Ending Optimum) (stop : RunStop) (units : ℕ) → answer_of e ≡ Err stop → units ≡ units_of e → IsStopOf e stop units
@@ -45,7 +45,7 @@ pub stops_as : {A : Type 0} (whole ending : Ending A) (stop : RunStop) (spent : 
 stops_as {A} whole ending stop spent e is = subst (λ (x : Ending A). IsStopOf x stop spent) (sym e) is
 
 -- and is its answer
-pub joint_of_stop : {A : Type 0} (value : A → Fraction) (ending : Ending Solution) (stop : RunStop) (spent : ℕ) → IsStopOf ending stop spent → IsJointAnswer value ending (Err (stop_of stop)) spent
+pub joint_of_stop : {A : Type 0} (value : A → Fraction) (ending : Ending CoveredReading) (stop : RunStop) (spent : ℕ) → IsStopOf ending stop spent → IsJointAnswer value ending (Err (stop_of stop)) spent
 joint_of_stop value ending (Wide unit w) spent is = is
 joint_of_stop value ending Budget spent is = is
 

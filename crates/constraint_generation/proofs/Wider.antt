@@ -8,9 +8,9 @@ use Rattle.master_program.proofs.SolvedWider.{solves_are_the_same}
 use Rattle.master_program.specs.Rounds.{limits_within, rounds}
 use Rattle.master_program.proofs.NodeWider.{rounds_are_the_same}
 use Rattle.constraint_generation.specs.Laws.{UnjudgedRunsAreTheSame, JointRunsAreTheSame}
-use Rattle.constraint_generation.specs.Run.{Solution, on_line, on_tree, sums_of, unjudged_run, joint_run}
+use Rattle.constraint_generation.specs.Run.{CoveredReading, on_line, on_tree, sums_of, unjudged_run, joint_run}
 
-by_count : (one : Bool) (line tree line' tree' : Ending Solution) → IsAlike line line' → IsAlike tree tree' → IsAlike (if one then line else tree) (if one then line' else tree')
+by_count : (one : Bool) (line tree line' tree' : Ending CoveredReading) → IsAlike line line' → IsAlike tree tree' → IsAlike (if one then line else tree) (if one then line' else tree')
 by_count true line tree line' tree' h k = h
 by_count false line tree line' tree' h k = k
 
@@ -29,6 +29,6 @@ unjudged_runs_are_the_same limits greater n spent orders le =
 pub joint_runs_are_the_same : JointRunsAreTheSame
 unfolding joint_run
 joint_runs_are_the_same limits greater n spent orders le =
-    let sums : Solution → ℕ → Ending Solution = where_fits (sums_of limits.payoff_limit n orders) in
+    let sums : CoveredReading → ℕ → Ending CoveredReading = where_fits (sums_of limits.payoff_limit n orders) in
     on_answer-alike (unjudged_run limits n orders spent) (unjudged_run (limits_within greater limits) n orders spent) sums sums
     (unjudged_runs_are_the_same limits greater n spent orders le) (λ s units fits. refl)

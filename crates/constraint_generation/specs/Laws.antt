@@ -18,20 +18,20 @@ use Rattle.master_program.specs.Verdict.{IsOutcomeOf}
 use Rattle.master_program.specs.Rounds.{Limits, limits_within}
 use Rattle.search_laws.specs.Rounds.{IsGreatestByTree}
 use Rattle.constraint_generation.specs.Answers.{IsCoverAs}
-use Rattle.constraint_generation.specs.Run.{Solution, by_line, by_tree, unjudged_run, joint_run}
+use Rattle.constraint_generation.specs.Run.{CoveredReading, by_line, by_tree, unjudged_run, joint_run}
 use Rattle.simplex_run.specs.Choose.{choose}
 use Rattle.simplex_run.specs.Ending.{done, unbounded, no_unit_left, HasNoMisfit}
 
 -- what was cleared is covered by the line of one underlying, or else by a tree, and its measure
 -- proves that it is the greatest
-abbrev pub IsGreatestBy : ℕ → List Order → Solution → Type 0
+abbrev pub IsGreatestBy : ℕ → List Order → CoveredReading → Type 0
 IsGreatestBy n orders (r, by_line) = (n ≡ 1) × IsGreatestByLine orders r
 IsGreatestBy n orders (r, by_tree tree) = (1 < n) × IsGreatestByTree n orders r tree
 
 -- so it is of what a run clears
 abbrev pub ClearedIsGreatest : Type 0
 ClearedIsGreatest =
-    (limits : Limits) (n spent units : ℕ) (orders : List Order) (s : Solution) → 1 ≤ n → n ≤ MAX_UNDERLYINGS → spent ≤ limits.budget
+    (limits : Limits) (n spent units : ℕ) (orders : List Order) (s : CoveredReading) → 1 ≤ n → n ≤ MAX_UNDERLYINGS → spent ≤ limits.budget
     → joint_run limits n orders spent ≡ done s units → IsGreatestBy n orders s
 
 -- each run ends with what it clears, or stops
@@ -70,12 +70,12 @@ abbrev pub IsYesWith : Batch → Reading → Cover → Type 0
 IsYesWith batch r cover = (outcome : Outcome) (measure : Measure) → IsOutcomeOf r outcome cover measure → verdict_of limit batch outcome ≡ Yes
 
 -- so it is with each cover that is the solution's
-abbrev pub PassesTheVerdict : Batch → Solution → Type 0
+abbrev pub PassesTheVerdict : Batch → CoveredReading → Type 0
 PassesTheVerdict batch (r, written) = (cover : Cover) → IsCoverAs written cover → IsYesWith batch r cover
 
 -- so it is of what a run clears
 abbrev pub ClearedPassesTheVerdict : Type 0
 ClearedPassesTheVerdict =
-    (limits : Limits) (spent units : ℕ) (batch : Batch) (s : Solution) → 1 ≤ batch.underlyings → batch.underlyings ≤ MAX_UNDERLYINGS
+    (limits : Limits) (spent units : ℕ) (batch : Batch) (s : CoveredReading) → 1 ≤ batch.underlyings → batch.underlyings ≤ MAX_UNDERLYINGS
     → AreOn batch.underlyings batch.orders → spent ≤ limits.budget → limits.payoff_limit ≡ limit
     → joint_run limits batch.underlyings batch.orders spent ≡ done s units → PassesTheVerdict batch s

@@ -13,7 +13,7 @@ use Rattle.simplex_run.specs.Ending.{Ending, done}
 use Rattle.master_program.specs.Reading.{Reading}
 use Rattle.pricing_oracle.specs.Programs.{HasSameSize}
 use Rattle.simplex.specs.declared.stop.RunStop.{RunStop}
-use Rattle.constraint_generation.specs.declared.reading.Read.{Read}
+use Rattle.constraint_generation.specs.declared.reading.Claim.{Claim}
 use Rattle.constraint_generation.specs.declared.master.TheConstants.{MAX_STATES}
 use Rattle.constraint_generation.specs.declared.joint_room.JointRoom.{JointRoom}
 use Rattle.constraint_generation.specs.declared.solve_room.SolveRoom.{SolveRoom}
@@ -36,7 +36,7 @@ pub record KeepsSolveRoom {A : Type 0} (old new : SolveRoom A) : Type 0 where
   pub points : vec_capacity old.points ≤ vec_capacity new.points
 
 -- the solve ends with what was read off, whose lists are in the room, or stops
-abbrev pub IsReadAnswer : {A : Type 0} → (A → Fraction) → Ending Reading → SolveRoom A → Result (Read A) RunStop → ℕ → Type 0
+abbrev pub IsReadAnswer : {A : Type 0} → (A → Fraction) → Ending Reading → SolveRoom A → Result (Claim A) RunStop → ℕ → Type 0
 IsReadAnswer value ending room (Ok read) spent = ending ≡ done (reading_in_lists value room.fills.items room.points.items read) spent
 IsReadAnswer value ending room (Err stop) spent = IsStopOf ending stop spent
 

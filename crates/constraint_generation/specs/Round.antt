@@ -12,7 +12,7 @@ use Rattle.master_program.specs.Rounds.{Cleared}
 use Rattle.pricing_oracle.specs.Answers.{IsTreeAs}
 use Rattle.constraint_generation.specs.Readings.{reading_in_lists}
 use Rattle.constraint_generation.specs.Stops.{IsStopOf}
-use Rattle.constraint_generation.specs.declared.reading.Read.{Read}
+use Rattle.constraint_generation.specs.declared.reading.Claim.{Claim}
 use Rattle.constraint_generation.specs.declared.round.RoundEnd.{RoundEnd}
 use Rattle.constraint_generation.specs.declared.round.RoundEnd.TheVariants.{Closed, Violated}
 use Rattle.constraint_generation.specs.declared.solve_room.SolveRoom.{SolveRoom}
@@ -33,7 +33,7 @@ IsOnForms n (Closed read) = Unit {0}
 IsOnForms n (Violated state) = state.count ≡ n + 1
 
 -- rounds end with what is cleared
-abbrev pub IsClearedAnswer : {A : Type 0} → (A → Fraction) → Ending Cleared → SolveRoom A → SignTree → Result (Read A) RunStop → ℕ → Type 0
+abbrev pub IsClearedAnswer : {A : Type 0} → (A → Fraction) → Ending Cleared → SolveRoom A → SignTree → Result (Claim A) RunStop → ℕ → Type 0
 IsClearedAnswer value ending room tree (Ok read) spent =
     (written : WrittenTree) × IsTreeAs written tree × (ending ≡ done (reading_in_lists value room.fills.items room.points.items read, written) spent)
 IsClearedAnswer value ending room tree (Err stop) spent = IsStopOf ending stop spent

@@ -33,28 +33,28 @@ pub data WrittenCover : Type 0 where
   by_tree : (tree : WrittenTree) → WrittenCover
 
 -- what a run clears, and what covers it
-abbrev pub Solution : Type 0
-Solution = Reading × WrittenCover
+abbrev pub CoveredReading : Type 0
+CoveredReading = Reading × WrittenCover
 
-abbrev pub on_line : Reading → ℕ → Ending Solution
+abbrev pub on_line : Reading → ℕ → Ending CoveredReading
 on_line r spent = done (r, by_line) spent
 
-abbrev pub on_tree : Cleared → ℕ → Ending Solution
+abbrev pub on_tree : Cleared → ℕ → Ending CoveredReading
 on_tree (r, tree) spent = done (r, by_tree tree) spent
 
 -- the run of a batch on n underlyings before the sums, with so many units spent before: the master
 -- program over the states of the line, or the rounds
-abbrev pub unjudged_run : Limits → ℕ → List Order → ℕ → Ending Solution
+abbrev pub unjudged_run : Limits → ℕ → List Order → ℕ → Ending CoveredReading
 unjudged_run limits n orders spent =
     if n == 1 then on_answer (master_solve limits.payoff_limit limits.limit (limits.budget - spent) spent 1 orders (later_states orders)) on_line
     else on_answer (rounds limits n orders spent) on_tree
 
 -- the sums of the verdict on a solution with its cover
-abbrev pub sums_of : ℕ → ℕ → List Order → Solution → Result Bool Wide
+abbrev pub sums_of : ℕ → ℕ → List Order → CoveredReading → Result Bool Wide
 sums_of limit n orders (r, by_line) = sums_hold limit orders r
 sums_of limit n orders (r, by_tree tree) = tree_sums_hold limit n orders (r, tree)
 
 -- the run of a batch on n underlyings with so many units spent before: last come the sums, in the
 -- limit of payoffs
-unfoldable pub joint_run : Limits → ℕ → List Order → ℕ → Ending Solution
+unfoldable pub joint_run : Limits → ℕ → List Order → ℕ → Ending CoveredReading
 joint_run limits n orders spent = on_answer (unjudged_run limits n orders spent) (where_fits (sums_of limits.payoff_limit n orders))

@@ -1,23 +1,22 @@
 //! The sums of the verdict, which come last in a run.
 ghost use Rattle.std.specs.Prelude.{◌≡◌, ◌≤◌, map, length, vec_capacity, vec_len};
-ghost use Rattle.form.specs.Limits.{HasItsForms, IsWithinLimits};
+ghost use Rattle.form.specs.Limits.{HasItsForms};
 ghost use Rattle.frac.specs.Value.{fraction_of};
 ghost use Rattle.cert_check.specs.Points.{IsOnStates};
 ghost use Rattle.cert_check.specs.Conditions.{IsCoverOn};
-ghost use Rattle.cert_check.specs.Tests.{AreSigns, HasSigns};
+ghost use Rattle.cert_check.specs.Tests.{HasSigns};
 ghost use Rattle.master_program.specs.Verdict.{sums_on};
-ghost use Rattle.constraint_generation.specs.Answers.{IsJointOf, IsJudgedAnswer, as_stopped, claimed_in, reading_in};
+ghost use Rattle.constraint_generation.specs.Answers.{IsJointOf, claimed_in, reading_in};
 
-use crate::joint::Joint;
+use crate::solution::Solution;
 use cert_check::{Claim, Cover, Measure, bound_holds, cover_holds, measure_holds, surplus_holds};
 use exact_num::{Exact, Wide};
 use form::Batch;
 use frac::Frac128;
-use lists::{make_room, push_within, take_list};
-use simplex::RunStop;
+use lists::push_within;
 
-/// Writes the numbers in 128 bits.
-fn write_widened<N: Exact>(wide: &mut Vec<Frac128>, numbers: &[N])
+/// Writes the numbers in 128 bits. It takes no memory.
+pub fn write_widened<N: Exact>(wide: &mut Vec<Frac128>, numbers: &[N])
     requires { length numbers.now ≤ vec_capacity wide.old }
     ensures { map fraction_of wide.new.items ≡ map N.fraction numbers.now }
 {
@@ -29,14 +28,14 @@ fn write_widened<N: Exact>(wide: &mut Vec<Frac128>, numbers: &[N])
 
 /// The solution with its numbers in 128 bits, its fills in a list that has room for them. It takes
 /// no memory.
-pub fn widened<N: Exact>(joint: Joint<N>, mut fills: Vec<Frac128>) -> Joint<Frac128>
+pub fn widened<N: Exact>(joint: Solution<N>, mut fills: Vec<Frac128>) -> Solution<Frac128>
     requires { vec_len joint.fills ≤ vec_capacity fills }
     ensures reading { reading_in fraction_of result ≡ reading_in N.fraction joint }
     ensures cover { result.cover ≡ joint.cover }
     ensures joint { (batch : Batch) → IsJointOf batch joint → IsJointOf batch result }
 {
     write_widened(&mut fills, &joint.fills);
-    Joint {
+    Solution {
         fills,
         liability: Frac128::of(joint.liability),
         surplus: Frac128::of(joint.surplus),
@@ -45,8 +44,9 @@ pub fn widened<N: Exact>(joint: Joint<N>, mut fills: Vec<Frac128>) -> Joint<Frac
     }
 }
 
-/// The tests of the verdict one after another: surplus, cover, measure and bound.
-fn tests_hold(
+/// The tests of the verdict one after another, with a sign for each leg to work in: surplus, cover,
+/// measure and bound. `Wide` comes at the first step that does not fit. It takes no memory.
+pub fn tests_hold(
     batch: &Batch,
     fills: &[Frac128],
     claim: &Claim,
@@ -72,60 +72,4 @@ fn tests_hold(
         return Ok(false);
     }
     bound_holds(batch, measure, &claim.surplus)
-}
-
-/// The sums of the verdict on a solution, with a sign for each leg to work in: the solution, where
-/// each step fits; `unit` units are spent. `Wide` comes at the first step that does not fit. It
-/// takes no memory.
-pub fn judge(
-    batch: &Batch,
-    joint: Joint<Frac128>,
-    unit: u32,
-    signs: &mut [i8],
-) -> Result<Joint<Frac128>, RunStop>
-    requires limits { IsWithinLimits batch.now }
-    requires joint { IsJointOf batch.now joint }
-    requires signs { AreSigns batch.now.orders (length signs.old) }
-    ensures { IsJudgedAnswer fraction_of batch.now joint (as_stopped result) unit }
-{
-    let claim = Claim {
-        liability: joint.liability,
-        surplus: joint.surplus,
-    };
-    match tests_hold(
-        batch,
-        &joint.fills,
-        &claim,
-        &joint.cover,
-        &joint.measure,
-        signs,
-    ) {
-        Ok(_) => Ok(joint),
-        Err(wide) => Err(RunStop::Wide { unit, wide }),
-    }
-}
-
-/// The same of a solution in any numbers, with a list that has room for its fills in 128 bits.
-pub(crate) fn judge_widened<N: Exact>(
-    batch: &Batch,
-    joint: Joint<N>,
-    unit: u32,
-    mut fills: Vec<Frac128>,
-    signs: &mut [i8],
-) -> Result<Joint<N>, RunStop>
-    requires limits { IsWithinLimits batch.now }
-    requires joint { IsJointOf batch.now joint }
-    requires room { length batch.now.orders ≤ vec_capacity fills }
-    requires signs { AreSigns batch.now.orders (length signs.old) }
-    ensures { IsJudgedAnswer N.fraction batch.now joint (as_stopped result) unit }
-{
-    write_widened(&mut fills, &joint.fills);
-    let claim = Claim {
-        liability: Frac128::of(joint.liability),
-        surplus: Frac128::of(joint.surplus),
-    };
-    match tests_hold(batch, &fills, &claim, &joint.cover, &joint.measure, signs) {
-        Ok(_) => Ok(joint),
-        Err(wide) => Err(RunStop::Wide { unit, wide }),
-    }
 }

@@ -31,15 +31,19 @@ pub fn units_suffice_on_line()
     ensures { UnitsSufficeOnLine }
 {}
 
-/// The definition computes the ends of the runs of worked batches.
+/// The definition computes the ends of the runs of worked batches,
 pub fn worked_batches_are_run()
     ensures no_order { NoOrderCleared }
     ensures one_option { OneOptionCleared }
-    ensures one_unit { OneUnitIsTooFew }
-    ensures equal_prices { EqualPricesAreLeft }
     ensures lower_strike { LowerStrikeCleared }
     ensures butterfly { ButterflyCleared }
-    ensures dear_cover { DearCoverIsLeft }
     ensures spread { SpreadCleared }
+{}
+
+/// and of those of which nothing is filled, or whose run stops.
+pub fn worked_batches_are_left()
+    ensures equal_prices { EqualPricesAreLeft }
+    ensures dear_cover { DearCoverIsLeft }
+    ensures one_unit { OneUnitIsTooFew }
     ensures too_wide { LargeBatchIsTooWide }
 {}

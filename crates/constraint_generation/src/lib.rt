@@ -5,7 +5,6 @@
 
 mod first_states;
 mod giving;
-mod joint;
 pub mod joint_room;
 mod judging;
 pub mod laws;
@@ -15,10 +14,10 @@ mod master_solve;
 mod reading;
 mod round;
 mod rounds_solve;
+mod solution;
 mod solve_room;
 mod solving;
 
-pub use joint::Joint;
 pub use joint_room::JointRoom;
-pub use judging::{judge, widened};
-pub use solving::solve_joint;
+pub use judging::{tests_hold, widened, write_widened};
+pub use solution::Solution;

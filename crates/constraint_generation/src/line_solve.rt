@@ -5,8 +5,8 @@ ghost use Rattle.constraint_generation.specs.Answers.{IsJointAnswer, IsJointOf, 
 ghost use Rattle.constraint_generation.specs.Rooms.{IsLineRoom};
 ghost use Rattle.constraint_generation.specs.Run.{unjudged_run};
 
-use crate::joint::Joint;
 use crate::master_solve::solve_over;
+use crate::solution::Solution;
 use crate::solve_room::{SolveRoom, take_joint};
 use cert_check::Cover;
 use exact_num::Exact;
@@ -21,7 +21,7 @@ pub(crate) fn solve_line<N: Exact>(
     budget: &mut Budget,
     states: &[State],
     solve: &mut SolveRoom<N>,
-) -> Result<Joint<N>, RunStop>
+) -> Result<Solution<N>, RunStop>
     requires limits { IsWithinLimits batch.now }
     requires room { IsLineRoom batch.now states.now solve.old }
     ensures run { IsJointAnswer N.fraction (unjudged_run

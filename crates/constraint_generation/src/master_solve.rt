@@ -17,7 +17,7 @@ ghost use Rattle.constraint_generation.specs.declared.master.TheConstants.{MAX_S
 
 use crate::first_states::zero_prices;
 use crate::giving::give_master;
-use crate::reading::{Read, read_off};
+use crate::reading::{Claim, read_off};
 use crate::solve_room::SolveRoom;
 use exact_num::Exact;
 use form::{Batch, Order, State};
@@ -64,7 +64,7 @@ pub(crate) fn solve_over<N: Exact>(
     states: &[State],
     budget: &mut Budget,
     room: &mut SolveRoom<N>,
-) -> Result<Read<N>, RunStop>
+) -> Result<Claim<N>, RunStop>
     requires forms { HasItsForms batch.now }
     requires few { length batch.now.orders ≤ MAX_ORDERS }
     requires few_states { length states.now ≤ MAX_STATES }

@@ -102,7 +102,7 @@ fn add_points<N: Exact>(
 /// What is read off but for its lists: the most that the house owes on the fills, and what is left
 /// to it.
 #[derive(Clone, Copy)]
-pub(crate) struct Read<N> {
+pub(crate) struct Claim<N> {
     pub(crate) liability: N,
     pub(crate) surplus: N,
 }
@@ -116,7 +116,7 @@ pub(crate) fn read_off<N: Exact>(
     later: &[State],
     fills: &mut Vec<N>,
     points: &mut Vec<Weighted>,
-) -> Result<Read<N>, Wide>
+) -> Result<Claim<N>, Wide>
     requires found { IsFound space.now.contents }
     requires few { (length orders.now ≤ MAX_ORDERS) × (length later.now ≤ MAX_STATES) }
     requires x { length (x_of space.now.contents) ≡ length orders.now + 1 }
@@ -136,7 +136,7 @@ pub(crate) fn read_off<N: Exact>(
     points.clear();
     add_point(points, first, space.reduced(k));
     add_points(points, later, space, k);
-    Ok(Read {
+    Ok(Claim {
         liability,
         surplus: space.value(),
     })

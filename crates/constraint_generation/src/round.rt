@@ -11,7 +11,7 @@ ghost use Rattle.constraint_generation.specs.Round.{IsOnForms, IsRoundAnswer};
 ghost use Rattle.constraint_generation.specs.declared.master.TheConstants.{MAX_STATES};
 
 use crate::master_solve::solve_over;
-use crate::reading::Read;
+use crate::reading::Claim;
 use crate::solve_room::SolveRoom;
 use exact_num::Exact;
 use form::{Batch, State};
@@ -22,7 +22,7 @@ use simplex::{Budget, RunStop};
 #[derive(Drop)]
 pub(crate) enum RoundEnd<N> {
     /// The liability is enough at every state, and the search room has the tree that shows it.
-    Closed(Read<N>),
+    Closed(Claim<N>),
     /// It is not, at this state.
     Violated(State),
 }

@@ -7,9 +7,9 @@ ghost use Rattle.constraint_generation.specs.Rooms.{IsRoundsRoom};
 ghost use Rattle.constraint_generation.specs.Round.{IsClearedAnswer};
 ghost use Rattle.constraint_generation.specs.Run.{unjudged_run};
 
-use crate::joint::Joint;
-use crate::reading::Read;
+use crate::reading::Claim;
 use crate::round::{RoundEnd, round};
+use crate::solution::Solution;
 use crate::solve_room::{SolveRoom, take_joint};
 use cert_check::Cover;
 use exact_num::Exact;
@@ -25,7 +25,7 @@ fn close<N: Exact>(
     states: &mut Vec<State>,
     room: &mut SolveRoom<N>,
     search: &mut SearchRoom<N>,
-) -> Result<Read<N>, RunStop>
+) -> Result<Claim<N>, RunStop>
     requires limits { IsWithinLimits batch.now }
     requires room { IsRoundsRoom batch.now budget.old.limit states.old.items
         (vec_capacity states.old) room.old search.old }
@@ -53,7 +53,7 @@ pub(crate) fn solve_rounds<N: Exact>(
     states: &mut Vec<State>,
     solve: &mut SolveRoom<N>,
     search: &mut SearchRoom<N>,
-) -> Result<Joint<N>, RunStop>
+) -> Result<Solution<N>, RunStop>
     requires limits { IsWithinLimits batch.now }
     requires room { IsRoundsRoom batch.now budget.old.limit states.old.items
         (vec_capacity states.old) solve.old search.old }

@@ -6,8 +6,8 @@ ghost use Rattle.constraint_generation.specs.Answers.{reading_in};
 ghost use Rattle.constraint_generation.specs.Readings.{reading_in_lists};
 ghost use Rattle.constraint_generation.specs.Rooms.{IsSolveRoom};
 
-use crate::joint::Joint;
-use crate::reading::Read;
+use crate::reading::Claim;
+use crate::solution::Solution;
 use cert_check::{Cover, Measure, Points, Weighted};
 use exact_num::Exact;
 use lists::{make_room, take_list};
@@ -74,12 +74,16 @@ impl<N: Exact> SolveRoom<N> {
 }
 
 /// What was read off, with its cover and with its lists, which are taken out of the room.
-pub(crate) fn take_joint<N: Exact>(room: &mut SolveRoom<N>, read: Read<N>, cover: Cover) -> Joint<N>
+pub(crate) fn take_joint<N: Exact>(
+    room: &mut SolveRoom<N>,
+    read: Claim<N>,
+    cover: Cover,
+) -> Solution<N>
     ensures reading { reading_in N.fraction result
         ≡ reading_in_lists N.fraction room.old.fills.items room.old.points.items read }
     ensures cover { result.cover ≡ cover }
 {
-    Joint {
+    Solution {
         fills: take_list(&mut room.fills),
         liability: read.liability,
         surplus: read.surplus,

@@ -9,9 +9,9 @@ use Rattle.exact_num.proofs.Values.{whole_is_lowest}
 use Rattle.simplex_run.specs.Places.{at}
 use Rattle.exact_num.specs.Fits.{after, written_back}
 use Rattle.fraction_tableau.proofs.EntrySteps.{front_of, behind, behind_more, done_more, left_less}
-use Rattle.simplex_run.specs.Pivot.{divided, cleared}
+use Rattle.simplex_run.specs.Pivot.{divided, eliminated}
 use Rattle.simplex_run.proofs.Entries.{other_test}
-use Rattle.fraction_tableau.specs.Lists.{front, fronts, list_after, lists_after, lists_after_turn}
+use Rattle.fraction_tableau.specs.Lists.{front, fronts, list_after, lists_after, lists_after_pivot}
 
 pub same_test : (j k : ℕ) → j ≡ k → nat_eq j k ≡ true
 same_test j k h = grind (arith, nat_tests)
@@ -46,7 +46,7 @@ module _ {A : Type 0} (V : A → List Fraction) (L c : ℕ) (labels : List ℕ) 
   pub at_pivot : (i : ℕ) (xs : List Fraction) → i ≡ r → list_after L c labels r P i xs ≡ Ok P
   at_pivot i xs e = let t = same_test i r e in rw t refl
 
-  pub at_other : (i : ℕ) (xs : List Fraction) → (i ≡ r → ⊥) → list_after L c labels r P i xs ≡ cleared L c labels P xs
+  pub at_other : (i : ℕ) (xs : List Fraction) → (i ≡ r → ⊥) → list_after L c labels r P i xs ≡ eliminated L c labels P xs
   at_other i xs ne = let t = other_test i r ne in rw t refl
 
 pub set_here : {A : Type 0} (xs : List A) (i : ℕ) (x d : A) → i < length xs → x ≡ slice_index_or xs i d → set xs i x ≡ xs
@@ -99,7 +99,7 @@ pivot_unread L c labels r P i (suc j) (xs ∷ rows) y e =
     ap (λ z. after (list_after L c labels r P i xs) (λ first. after z (λ others. Ok (first ∷ others)))) (pivot_unread L c labels r P (i + 1) j rows y (omega (arith, e)))
 
 pub turned_is : (L c : ℕ) (labels : List ℕ) (r : ℕ) (rows : List (List Fraction)) (P last : List Fraction) → divided L c labels (slice_index_or rows r []) ≡ Ok P
-    → lists_after_turn L c labels r rows last ≡ after (lists_after L c labels r P 0 (set rows r P)) (λ others. after (cleared L c labels P last) (λ l. Ok (others, l)))
+    → lists_after_pivot L c labels r rows last ≡ after (lists_after L c labels r P 0 (set rows r P)) (λ others. after (eliminated L c labels P last) (λ l. Ok (others, l)))
 turned_is L c labels r rows P last e = let unread = pivot_unread L c labels r P 0 r rows P (omega arith) in rw (e, unread) refl
 
 pub beside : {T A B : Type 0} (q : Result T Wide) (a : A) (b : B) → written_back {A = A × B} q (a, b) ≡ after (written_back q b) (λ l. Ok (a, l))

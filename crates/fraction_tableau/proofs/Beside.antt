@@ -5,10 +5,10 @@ use Rattle.exact_num.specs.declared.misfit.Wide.{Wide}
 use Rattle.exact_num.specs.Fraction.{Fraction}
 use Rattle.exact_num.specs.Fits.{after, written_back}
 use Rattle.simplex_run.specs.Table.{Row, Table, row_of, with_right, entries_at, basic_at}
-use Rattle.simplex_run.specs.Pivot.{divided, cleared, rows_after, after_pivot}
+use Rattle.simplex_run.specs.Pivot.{divided, eliminated, rows_after, after_pivot}
 use Rattle.simplex_run.proofs.Entries.{other_test}
 use Rattle.fraction_tableau.proofs.ArenaSteps.{same_test}
-use Rattle.fraction_tableau.specs.Lists.{lists_after, lists_after_turn}
+use Rattle.fraction_tableau.specs.Lists.{lists_after, lists_after_pivot}
 use Rattle.fraction_tableau.specs.Candidates.{beside_basics, apart}
 
 one_more : (b : ℕ) (bs : List ℕ) (q : Result (List Fraction) Wide) (rest : Result (List (List Fraction)) Wide)
@@ -28,7 +28,7 @@ module _ (L c : ℕ) (labels : List ℕ) (e r : ℕ) (P : List Fraction) where
   past (b ∷ bs) [] i s p = absurd (omega (arith, s))
   past (b ∷ bs) (xs ∷ lists) i s p =
       let t = other_test i r (λ q. omega (arith, p, q)) in
-      rw (t, past bs lists (i + 1) (omega (arith, s)) (omega (arith, p))) (one_more b bs (cleared L c labels P xs) (lists_after L c labels r P (i + 1) lists))
+      rw (t, past bs lists (i + 1) (omega (arith, s)) (omega (arith, p))) (one_more b bs (eliminated L c labels P xs) (lists_after L c labels r P (i + 1) lists))
 
   pub rows_beside : (bs : List ℕ) (lists : List (List Fraction)) (i j : ℕ) → length bs ≡ length lists → i + j ≡ r
       → rows_after L c labels e r P i (beside_basics bs lists) ≡ after (lists_after L c labels r P i lists) (λ o. Ok (beside_basics (set bs j e) o))
@@ -41,7 +41,7 @@ module _ (L c : ℕ) (labels : List ℕ) (e r : ℕ) (P : List Fraction) where
       rw (t, past bs lists (i + 1) (omega (arith, s)) (omega (arith, p))) (one_more e bs (Ok P) (lists_after L c labels r P (i + 1) lists))
   rows_beside (b ∷ bs) (xs ∷ lists) i (suc j) s p =
       let t = other_test i r (λ q. omega (arith, p, q)) in
-      rw (t, rows_beside bs lists (i + 1) j (omega (arith, s)) (omega (arith, p))) (one_more b (set bs j e) (cleared L c labels P xs) (lists_after L c labels r P (i + 1) lists))
+      rw (t, rows_beside bs lists (i + 1) j (omega (arith, s)) (omega (arith, p))) (one_more b (set bs j e) (eliminated L c labels P xs) (lists_after L c labels r P (i + 1) lists))
 
 pub entries_beside : (bs : List ℕ) (lists : List (List Fraction)) (r : ℕ) → length bs ≡ length lists → entries_at (beside_basics bs lists) r ≡ slice_index_or lists r []
 entries_beside [] [] r s = refl
@@ -70,7 +70,7 @@ made_of columns labels basics (Err w) last = refl
 -- l is the variable that leaves
 pub pivoted_apart : (L c r l columns : ℕ) (labels basics : List ℕ) (lists : List (List Fraction)) (objective : List Fraction) → length basics ≡ length lists → slice_index_or basics r 0 ≡ l
     → after_pivot L c r (apart columns labels basics lists objective)
-    ≡ after (lists_after_turn L c (with_right columns (set labels c l)) r lists objective) (λ t. Ok (apart columns (set labels c l) (set basics r (get_or labels c 0)) t.0 t.1))
+    ≡ after (lists_after_pivot L c (with_right columns (set labels c l)) r lists objective) (λ t. Ok (apart columns (set labels c l) (set basics r (get_or labels c 0)) t.0 t.1))
 unfolding after_pivot
 pivoted_apart L c r l columns labels basics lists objective s is_l =
     let b = basic_beside basics lists r s ∙ is_l in
@@ -80,10 +80,10 @@ pivoted_apart L c r l columns labels basics lists objective s is_l =
     news = with_right columns (set labels c l)
 
     go : (q : Result (List Fraction) Wide)
-        → after q (λ pivot. after (rows_after L c (with_right columns (set labels c l)) (get_or labels c 0) r pivot 0 (beside_basics basics lists)) (λ rows. after (cleared L c (with_right columns (set labels c l)) pivot objective) (λ o. table_with columns (set labels c l) rows o)))
-        ≡ after (after {B = List (List Fraction) × List Fraction} q (λ pivot. after (lists_after L c (with_right columns (set labels c l)) r pivot 0 lists) (λ others. after (cleared L c (with_right columns (set labels c l)) pivot objective) (λ l. Ok (others, l))))) (λ t. Ok (apart columns (set labels c l) (set basics r (get_or labels c 0)) t.0 t.1))
+        → after q (λ pivot. after (rows_after L c (with_right columns (set labels c l)) (get_or labels c 0) r pivot 0 (beside_basics basics lists)) (λ rows. after (eliminated L c (with_right columns (set labels c l)) pivot objective) (λ o. table_with columns (set labels c l) rows o)))
+        ≡ after (after {B = List (List Fraction) × List Fraction} q (λ pivot. after (lists_after L c (with_right columns (set labels c l)) r pivot 0 lists) (λ others. after (eliminated L c (with_right columns (set labels c l)) pivot objective) (λ l. Ok (others, l))))) (λ t. Ok (apart columns (set labels c l) (set basics r (get_or labels c 0)) t.0 t.1))
     go (Err w) = refl
-    go (Ok P) = rw (rows_beside L c news (get_or labels c 0) r P basics lists 0 r s (omega arith)) (made_of columns (set labels c l) (set basics r (get_or labels c 0)) (lists_after L c news r P 0 lists) (cleared L c news P objective))
+    go (Ok P) = rw (rows_beside L c news (get_or labels c 0) r P basics lists 0 r s (omega arith)) (made_of columns (set labels c l) (set basics r (get_or labels c 0)) (lists_after L c news r P 0 lists) (eliminated L c news P objective))
 
 pub written_apart : {T : Type 0} (columns : ℕ) (labels basics : List ℕ) (q : Result T Wide) (lists : List (List Fraction)) (objective : List Fraction)
     → written_back q (apart columns labels basics lists objective) ≡ after (written_back {A = List (List Fraction) × List Fraction} q (lists, objective)) (λ t. Ok (apart columns labels basics t.0 t.1))

@@ -8,7 +8,7 @@ pub mod Leaves
 pub mod Filling
 pub mod Starts
 pub mod Reading
-pub mod Turning
+pub mod Pivoting
 pub mod Written
 pub mod Parts
 pub mod Sweeps

@@ -7,7 +7,7 @@ use Rattle.simplex_run.specs.Places.{at, fraction_zero, numbers}
 use Rattle.simplex_run.specs.Program.{LinearProgram}
 use Rattle.simplex_run.specs.Table.{Table as TableOf, where_basic}
 use Rattle.simplex_run.specs.Choice.{Column}
-use Rattle.simplex_run.specs.Run.{Turn, moved, unlimited, stopped}
+use Rattle.simplex_run.specs.Run.{PivotEnd, moved, unlimited, stopped}
 use Rattle.fraction_tableau.specs.declared.table.Table.{Table}
 use Rattle.fraction_tableau.specs.Lists.{fronts}
 use Rattle.fraction_tableau.specs.Candidates.{apart}
@@ -55,11 +55,11 @@ pub record IsGiven {A : Type 0} (value : A → Fraction) (t : Table A) : Type 0 
   pub widths : All (λ row. length row ≡ t.rows.width) t.rows.rows
   pub objective : objective_of value t ≡ take (length t.labels.items) (objective_of value t) ++ (fraction_zero ∷ [])
 
--- ---- a turn: whether a row limited the entering variable, and the table after it
-abbrev pub turn_answer : Result Bool Wide → TableOf → Turn
-turn_answer (Ok true) t = moved t
-turn_answer (Ok false) t = unlimited
-turn_answer (Err w) t = stopped w
+-- ---- a pivot: whether a row limited the entering variable, and the table after it
+abbrev pub pivot_answer : Result Bool Wide → TableOf → PivotEnd
+pivot_answer (Ok true) t = moved t
+pivot_answer (Ok false) t = unlimited
+pivot_answer (Err w) t = stopped w
 
 -- what a step of 1 in the column that enters changes in variable j
 abbrev pub direction_entry : Column → TableOf → ℕ → Fraction

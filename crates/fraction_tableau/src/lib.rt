@@ -1,5 +1,5 @@
 //! A program as it is given, row by row, with its zeros left out; and the rows of a table of the
-//! columns that are not basic, and its turns, over exact numbers.
+//! columns that are not basic, and its pivots, over exact numbers.
 #![tactic(auto)]
 
 mod candidate;

@@ -19,7 +19,7 @@ pub fn write_numbers(numbers: &mut Vec<usize>, count: usize)
     }
 }
 
-/// Turns the sign of each number.
+/// Pivots the sign of each number.
 pub fn turn_signs<N: Exact>(numbers: &mut [N])
     ensures { map N.fraction numbers.new ≡ map negated (map N.fraction numbers.old) }
 {

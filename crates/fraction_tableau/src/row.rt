@@ -1,9 +1,9 @@
-//! A row in a turn: the column that enters becomes that of the variable that leaves.
+//! A row in a pivot: the column that enters becomes that of the variable that leaves.
 ghost use Rattle.std.specs.Prelude.{◌≡◌, ◌≢◌, ◌+◌, ◌<◌, ◌≤◌, length, map, pos, unsigned_abs, vec_capacity};
 ghost use Rattle.exact_num.specs.Fits.{div_of, written_back};
 ghost use Rattle.simplex_run.specs.Places.{at};
 ghost use Rattle.simplex_run.specs.Table.{with_right};
-ghost use Rattle.simplex_run.specs.Pivot.{divided, cleared, less_product as less_product_of, steps_of, told};
+ghost use Rattle.simplex_run.specs.Pivot.{divided, eliminated, less_product as less_product_of, steps_of, told};
 ghost use Rattle.fraction_tableau.specs.Nonzero.{nonzero_places};
 
 use crate::columns::label_of;
@@ -44,7 +44,7 @@ pub fn divide_row<N: Exact>(
 
 /// Takes `factor` times the pivot row from the row; `places` are those where the pivot row is not 0:
 /// the entries elsewhere stay.
-pub fn clear_row<N: Exact>(
+pub fn eliminate_row<N: Exact>(
     row: &mut [N],
     pivot: &[N],
     places: &[usize],
@@ -76,7 +76,7 @@ pub fn clear_row<N: Exact>(
     Ok(())
 }
 
-/// The row that leaves becomes the pivot row; `labels` are those after the turn.
+/// The row that leaves becomes the pivot row; `labels` are those after the pivot.
 pub fn take_pivot<N: Exact>(
     row: &mut [N],
     places: &mut Vec<usize>,
@@ -99,8 +99,8 @@ pub fn take_pivot<N: Exact>(
     divide_row(row, places.as_slice(), labels, columns, divisor)
 }
 
-/// Another row, or the objective row, is cleared; `places` are those where the pivot row is not 0.
-pub fn clear_column<N: Exact>(
+/// Another row, or the objective row, is eliminated; `places` are those where the pivot row is not 0.
+pub fn eliminate_column<N: Exact>(
     row: &mut [N],
     pivot: &[N],
     places: &[usize],
@@ -113,7 +113,7 @@ pub fn clear_column<N: Exact>(
         × (length pivot.now ≡ length labels.now + 1) }
     requires places { places.now ≡ nonzero_places (map N.fraction pivot.now) }
     ensures { written_back result (map N.fraction row.new)
-        ≡ cleared (unsigned_abs N.LIMIT) c (with_right columns labels.now)
+        ≡ eliminated (unsigned_abs N.LIMIT) c (with_right columns labels.now)
         (map N.fraction pivot.now) (map N.fraction row.old) }
 {
     let factor = row[c];
@@ -121,5 +121,5 @@ pub fn clear_column<N: Exact>(
     if is_zero(factor) {
         return Ok(());
     }
-    clear_row(row, pivot, places, labels, columns, factor)
+    eliminate_row(row, pivot, places, labels, columns, factor)
 }

@@ -1,15 +1,15 @@
-//! The rows of a turn in an arena, of whose rows the first entries count: one for each label, and the
+//! The rows of a pivot in an arena, of whose rows the first entries count: one for each label, and the
 //! right side.
 ghost use Rattle.std.specs.Prelude.{◌≡◌, ◌≢◌, ◌+◌, ◌<◌, ◌≤◌, [], length, map, pos, slice_index_or, unsigned_abs, vec_capacity};
 ghost use Rattle.exact_num.specs.Fits.{written_back};
 ghost use Rattle.simplex_run.specs.Places.{at};
 ghost use Rattle.simplex_run.specs.Table.{with_right};
-ghost use Rattle.simplex_run.specs.Pivot.{divided, cleared};
-ghost use Rattle.fraction_tableau.specs.Lists.{front, fronts, lists_after, lists_after_turn};
+ghost use Rattle.simplex_run.specs.Pivot.{divided, eliminated};
+ghost use Rattle.fraction_tableau.specs.Lists.{front, fronts, lists_after, lists_after_pivot};
 ghost use Rattle.fraction_tableau.specs.Nonzero.{nonzero_places};
 
 use crate::entries::list_nonzero;
-use crate::row::{clear_column, take_pivot};
+use crate::row::{eliminate_column, take_pivot};
 use exact_num::{Exact, Wide};
 use lists::RowArena;
 
@@ -33,8 +33,8 @@ fn take_front<N: Exact>(
     take_pivot(&mut row[..labels.len() + 1], places, labels, columns, c)
 }
 
-/// Another row is cleared.
-fn clear_front<N: Exact>(
+/// Another row is eliminated.
+fn eliminate_front<N: Exact>(
     row: &mut [N],
     pivot: &[N],
     places: &[usize],
@@ -48,12 +48,12 @@ fn clear_front<N: Exact>(
     requires places { places.now
         ≡ nonzero_places (front N.fraction (length labels.now + 1) pivot.now) }
     ensures { written_back result (front N.fraction (length labels.now + 1) row.new)
-        ≡ cleared (unsigned_abs N.LIMIT) c (with_right columns labels.now)
+        ≡ eliminated (unsigned_abs N.LIMIT) c (with_right columns labels.now)
         (front N.fraction (length labels.now + 1) pivot.now)
         (front N.fraction (length labels.now + 1) row.old) }
 {
     let width = labels.len() + 1;
-    clear_column(
+    eliminate_column(
         &mut row[..width],
         &pivot[..width],
         places,
@@ -64,7 +64,7 @@ fn clear_front<N: Exact>(
 }
 
 /// Clears each row but the pivot row r, up to the first that has a step that does not fit.
-fn clear_rows<N: Exact>(
+fn eliminate_rows<N: Exact>(
     rows: &mut RowArena<N>,
     places: &[usize],
     labels: &[usize],
@@ -89,15 +89,15 @@ fn clear_rows<N: Exact>(
     for i in 0..rows.len() {
         if i != r {
             let (pivot, row) = rows.pair(r, i);
-            clear_front(row, pivot, places, labels, columns, c)?;
+            eliminate_front(row, pivot, places, labels, columns, c)?;
         }
     }
     Ok(())
 }
 
-/// The rows of a turn and the objective row, where the column at c becomes that of the variable that
+/// The rows of a pivot and the objective row, where the column at c becomes that of the variable that
 /// leaves. `places` is room for the list of the columns where the pivot row is not 0.
-pub fn turn_rows<N: Exact>(
+pub fn pivot_rows<N: Exact>(
     rows: &mut RowArena<N>,
     objective: &mut [N],
     places: &mut Vec<usize>,
@@ -115,7 +115,7 @@ pub fn turn_rows<N: Exact>(
     requires room { length labels.now + 1 ≤ vec_capacity places.old }
     ensures turned { written_back result
         (fronts N.fraction (length labels.now + 1) rows.new.rows, map N.fraction objective.new)
-        ≡ lists_after_turn (unsigned_abs N.LIMIT) c (with_right columns labels.now) r
+        ≡ lists_after_pivot (unsigned_abs N.LIMIT) c (with_right columns labels.now) r
         (fronts N.fraction (length labels.now + 1) rows.old.rows)
         (map N.fraction objective.old) }
     ensures width { rows.new.width ≡ rows.old.width }
@@ -127,6 +127,6 @@ pub fn turn_rows<N: Exact>(
     take_front(rows.row_mut(r), places, labels, columns, c)?;
     list_nonzero(&rows.row(r)[..width], places);
     let listed = places.as_slice();
-    clear_rows(rows, listed, labels, columns, r, c)?;
-    clear_column(objective, &rows.row(r)[..width], listed, labels, columns, c)
+    eliminate_rows(rows, listed, labels, columns, r, c)?;
+    eliminate_column(objective, &rows.row(r)[..width], listed, labels, columns, c)
 }

@@ -9,7 +9,7 @@ use crate::columns::label_of;
 use crate::entries::{less_product, quotient};
 use exact_num::{Exact, Wide};
 
-/// What a turn makes of the entries of a row: each over a divisor, or less a factor times that of
+/// What a pivot makes of the entries of a row: each over a divisor, or less a factor times that of
 /// the pivot row.
 #[derive(Clone, Copy)]
 pub enum Step<N> {

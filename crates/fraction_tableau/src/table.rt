@@ -5,17 +5,17 @@ ghost use Rattle.simplex_run.specs.Table.{first_table, right_side, where_basic, 
 ghost use Rattle.std.specs.Option.{option_map};
 ghost use Rattle.simplex_run.specs.Choice.{entering};
 ghost use Rattle.simplex_run.specs.Pivot.{after_pivot};
-ghost use Rattle.simplex_run.specs.Run.{price_of, turn};
+ghost use Rattle.simplex_run.specs.Run.{reduced_cost_of, pivoted};
 ghost use Rattle.fraction_tableau.specs.Labels.{as_column};
 ghost use Rattle.fraction_tableau.specs.Candidates.{leaving_of, IsPivot};
-ghost use Rattle.fraction_tableau.specs.Lists.{lists_after_turn};
+ghost use Rattle.fraction_tableau.specs.Lists.{lists_after_pivot};
 ghost use Rattle.fraction_tableau.specs.Programs.{empty_program, with_row};
 ghost use Rattle.fraction_tableau.specs.declared.limits.TheConstants.{MAX_SIDE};
 
 use crate::columns::{Entering, least_column};
 use crate::ratios::leaving;
 use crate::room::{turn_signs, write_numbers};
-use crate::rows::turn_rows;
+use crate::rows::pivot_rows;
 use exact_num::{Exact, Wide};
 use lists::{RowArena, push_within, write_front, write_items};
 use std::alloc::{AllocError, Global};
@@ -30,7 +30,7 @@ pub struct Table<N: Copy> {
     // of each row the first entries count, as many as the objective row has
     rows: RowArena<N>,
     objective: Vec<N>,
-    // room for the columns of a turn that are not skipped, and for a row that comes
+    // room for the columns of a pivot that are not skipped, and for a row that comes
     places: Vec<usize>,
     line: Vec<N>,
     ghost count: { vec_len basics ≡ length rows.rows },
@@ -44,7 +44,7 @@ pub struct Table<N: Copy> {
 }
 
 impl<N: Exact> Table<N> {
-    ghost use Rattle.fraction_tableau.specs.Tables.{as_table, lists_of, objective_of, program_in, room_of, turn_answer, direction_entry, columns_of, IsGiven, SameRoom, SameShape};
+    ghost use Rattle.fraction_tableau.specs.Tables.{as_table, lists_of, objective_of, program_in, room_of, pivot_answer, direction_entry, columns_of, IsGiven, SameRoom, SameShape};
 
     /// A table with room for as many rows of as many columns. It is that of no program yet.
     pub fn with_room(alloc: Global, rows: usize, columns: usize) -> Result<Table<N>, AllocError>
@@ -140,20 +140,20 @@ impl<N: Exact> Table<N> {
         leaving(self.basics.as_slice(), &self.rows, self.labels.len(), c)
     }
 
-    /// The rows of a turn and the objective row; the labels are those after it.
-    fn turn_rows(&mut self, c: usize, r: usize) -> Result<(), Wide>
+    /// The rows of a pivot and the objective row; the labels are those after it.
+    fn pivot_rows(&mut self, c: usize, r: usize) -> Result<(), Wide>
         requires column { c < length self.old.labels.items }
         requires pivot { IsPivot c r (lists_of N.fraction self.old) }
         ensures turned { written_back result
             (lists_of N.fraction self.new, objective_of N.fraction self.new)
-            ≡ lists_after_turn (unsigned_abs N.LIMIT) c
+            ≡ lists_after_pivot (unsigned_abs N.LIMIT) c
             (with_right (columns_of self.old) self.old.labels.items) r
             (lists_of N.fraction self.old) (objective_of N.fraction self.old) }
         ensures labels { self.new.labels.items ≡ self.old.labels.items }
         ensures basics { self.new.basics.items ≡ self.old.basics.items }
         ensures shape { SameShape self.old self.new }
     {
-        turn_rows(
+        pivot_rows(
             &mut self.rows,
             self.objective.as_mut_slice(),
             &mut self.places,
@@ -183,7 +183,7 @@ impl<N: Exact> Table<N> {
     }
 
     /// The variable of the column at place c becomes basic in row r.
-    fn pivot(&mut self, c: usize, r: usize) -> Result<(), Wide>
+    fn pivot_at(&mut self, c: usize, r: usize) -> Result<(), Wide>
         requires column { c < length self.old.labels.items }
         requires pivot { IsPivot c r (lists_of N.fraction self.old) }
         ensures table { written_back result (as_table N.fraction self.new)
@@ -191,15 +191,15 @@ impl<N: Exact> Table<N> {
         ensures shape { SameShape self.old self.new }
     {
         self.exchange(c, r);
-        self.turn_rows(c, r)
+        self.pivot_rows(c, r)
     }
 
-    /// One turn: the column at place c enters. True where a row left, false where nothing limits
+    /// One pivot: the column at place c enters. True where a row left, false where nothing limits
     /// the column.
-    pub fn turn(&mut self, c: usize) -> Result<bool, Wide>
+    pub fn pivot(&mut self, c: usize) -> Result<bool, Wide>
         requires { c < length self.old.labels.items }
-        ensures turn { turn_answer result (as_table N.fraction self.new)
-            ≡ turn (unsigned_abs N.LIMIT) c (as_table N.fraction self.old) }
+        ensures pivoted { pivot_answer result (as_table N.fraction self.new)
+            ≡ pivoted (unsigned_abs N.LIMIT) c (as_table N.fraction self.old) }
         ensures stays { result ≡ Ok false
             → as_table N.fraction self.new ≡ as_table N.fraction self.old }
         ensures shape { SameShape self.old self.new }
@@ -207,7 +207,7 @@ impl<N: Exact> Table<N> {
         match self.leaving(c)? {
             None => Ok(false),
             Some(r) => {
-                self.pivot(c, r)?;
+                self.pivot_at(c, r)?;
                 Ok(true)
             }
         }
@@ -240,9 +240,9 @@ impl<N: Exact> Table<N> {
     }
 
     /// The objective entry of variable j: 0 where it is basic.
-    pub fn price_at(&self, j: usize) -> N
+    pub fn reduced_cost(&self, j: usize) -> N
         requires { j < columns_of self.now }
-        ensures { N.fraction result ≡ price_of (as_table N.fraction self.now) j }
+        ensures { N.fraction result ≡ reduced_cost_of (as_table N.fraction self.now) j }
     {
         match self.column_of(j) {
             None => N::zero(),

@@ -6,13 +6,13 @@ use Rattle.std.proofs.lemmas.List.{get_or_append_left, get_or_default, set-set}
 use Rattle.lists.specs.Parts.{refit}
 use Rattle.lists.proofs.Lists.{refit_is}
 use Rattle.fraction_tableau.proofs.ArenaSteps.{at_set_same, at_set_other}
-use Rattle.run_equivalence.specs.Lines.{IsLine, line_size, widest}
-use Rattle.integer_tableau.specs.Rows.{line_in, row_at}
+use Rattle.run_equivalence.specs.IntegerRows.{IsIntegerRow, row_size, widest}
+use Rattle.integer_tableau.specs.Rows.{row_in, row_at}
 use Rattle.integer_tableau.specs.Stored.{AreStored, HasSigns, IsChangedAt, IsStored, IsWrittenAt, SameCounts, is_wide_at, rows_in, size_at}
 use Rattle.integer_tableau.specs.declared.rows.Rows.{Rows}
 use Rattle.integer_tableau.proofs.Standing.{IsStill, row_standing_short, row_standing_wide, rows_many, still_stored}
 use Rattle.integer_tableau.proofs.Stored.{IsSet, rows_changed, set_is}
-use Rattle.integer_tableau.proofs.Turned.{line_wider, size_below}
+use Rattle.integer_tableau.proofs.Turned.{row_wider, size_below}
 use Rattle.integer_tableau.proofs.Written.{counts_then}
 
 -- ---- the row that is written
@@ -33,20 +33,20 @@ pub size_there : (r : Rows) (i n : ℕ) → i < length r.short.rows → n ≡ ge
 size_there r i n low e = get_or_default r.sizes.items i 0 n (omega (arith, low, r.sizes_count, r.sizes.ok)) ∙ sym e
 
 -- ---- a row that stands as it is to
-pub stored_short : (w i : ℕ) (r : Rows) → is_wide_at r i ≡ false → line_size (line_in w (row_at r.short.rows i)) ≤ size_at r i → line_size (line_in w (row_at r.short.rows i)) ≤ widest → size_at r i < 2 ^ 64 → IsStored w r i
+pub stored_short : (w i : ℕ) (r : Rows) → is_wide_at r i ≡ false → row_size (row_in w (row_at r.short.rows i)) ≤ size_at r i → row_size (row_in w (row_at r.short.rows i)) ≤ widest → size_at r i < 2 ^ 64 → IsStored w r i
 stored_short w i r flag size low room =
     let here = sym (row_standing_short r i flag) in
     record {
-      size = subst (λ (z : List ℤ). line_size (line_in w z) ≤ size_at r i) here size;
-      short = λ _. (subst (λ (z : List ℤ). line_size (line_in w z) ≤ widest) here low, room);
+      size = subst (λ (z : List ℤ). row_size (row_in w z) ≤ size_at r i) here size;
+      short = λ _. (subst (λ (z : List ℤ). row_size (row_in w z) ≤ widest) here low, room);
       signs = λ wide. absurd cc;
     }
 
-pub stored_wide : (w i : ℕ) (r : Rows) → i < length r.short.rows → is_wide_at r i ≡ true → line_size (line_in w (row_at r.wide.rows i)) ≤ size_at r i → HasSigns w (row_at r.short.rows i) (row_at r.wide.rows i) → IsStored w r i
+pub stored_wide : (w i : ℕ) (r : Rows) → i < length r.short.rows → is_wide_at r i ≡ true → row_size (row_in w (row_at r.wide.rows i)) ≤ size_at r i → HasSigns w (row_at r.short.rows i) (row_at r.wide.rows i) → IsStored w r i
 stored_wide w i r low flag size signs =
     let here = sym (row_standing_wide r i low flag) in
     record {
-      size = subst (λ (z : List ℤ). line_size (line_in w z) ≤ size_at r i) here size;
+      size = subst (λ (z : List ℤ). row_size (row_in w z) ≤ size_at r i) here size;
       short = λ short. absurd cc;
       signs = λ _. signs;
     }
@@ -114,7 +114,7 @@ pub record IsAppended (row : List ℤ) (old new : Rows) : Type 0 where
   pub sizes : new.sizes.items ≡ set old.sizes.items (length old.short.rows) widest
   pub room : length old.short.rows < length old.sizes.items
 
-module _ (limit w : ℕ) (old new : Rows) (row : List ℤ) (g : IsAppended row old new) (s : AreStored limit w old) (line : IsLine widest w (line_in w row)) where
+module _ (limit w : ℕ) (old new : Rows) (row : List ℤ) (g : IsAppended row old new) (s : AreStored limit w old) (line : IsIntegerRow widest w (row_in w row)) where
   many : length (rows_in old) ≡ length old.short.rows
   many = rows_many old
 
@@ -130,11 +130,11 @@ module _ (limit w : ℕ) (old new : Rows) (row : List ℤ) (g : IsAppended row o
   last : row_at new.short.rows (length old.short.rows) ≡ row
   last = ap (λ (rows : List (List ℤ)). row_at rows (length old.short.rows)) g.short ∙ get_or-append_seam old.short.rows row [] []
 
-  low : line_size (line_in w (row_at new.short.rows (length old.short.rows))) ≤ widest
-  low = subst (λ (z : List ℤ). line_size (line_in w z) ≤ widest) (sym last) (size_below widest w (line_in w row) line)
+  low : row_size (row_in w (row_at new.short.rows (length old.short.rows))) ≤ widest
+  low = subst (λ (z : List ℤ). row_size (row_in w z) ≤ widest) (sym last) (size_below widest w (row_in w row) line)
 
   new_row : IsStored w new (length old.short.rows)
-  new_row = stored_short w (length old.short.rows) new flag (subst (λ (k : ℕ). line_size (line_in w (row_at new.short.rows (length old.short.rows))) ≤ k) (sym size) low) low (subst (λ (k : ℕ). k < 2 ^ 64) (sym size) (omega arith))
+  new_row = stored_short w (length old.short.rows) new flag (subst (λ (k : ℕ). row_size (row_in w (row_at new.short.rows (length old.short.rows))) ≤ k) (sym size) low) low (subst (λ (k : ℕ). k < 2 ^ 64) (sym size) (omega arith))
 
   still : (j : ℕ) → j < length old.short.rows → IsStill j old new
   still j inside =
@@ -155,11 +155,11 @@ module _ (limit w : ℕ) (old new : Rows) (row : List ℤ) (g : IsAppended row o
         | no apart ↦ (let before : j < length old.short.rows = omega (arith, inside, more, apart) in still_stored w j old new (still j before) (s.rows j before))
       ]
 
-      lines : (j : ℕ) → j < length (rows_in new) → IsLine limit w (line_in w (row_at (rows_in new) j))
+      lines : (j : ℕ) → j < length (rows_in new) → IsIntegerRow limit w (row_in w (row_at (rows_in new) j))
       lines j inside = elim (ℕ_discrete j (length old.short.rows)) [
         | yes e ↦
-            subst (λ (z : List ℤ). IsLine limit w (line_in w z))
-            (sym (ap (row_at (rows_in new)) e ∙ row_standing_short new (length old.short.rows) flag ∙ last)) (line_wider widest limit w (line_in w row) wider line)
+            subst (λ (z : List ℤ). IsIntegerRow limit w (row_in w z))
+            (sym (ap (row_at (rows_in new)) e ∙ row_standing_short new (length old.short.rows) flag ∙ last)) (row_wider widest limit w (row_in w row) wider line)
         | no apart ↦ (let before : j < length old.short.rows = omega (arith, inside, rows_many new, more, apart) in
-            subst (λ (z : List ℤ). IsLine limit w (line_in w z)) (sym (still j before).row) (s.lines j (omega (arith, before, many))))
+            subst (λ (z : List ℤ). IsIntegerRow limit w (row_in w z)) (sym (still j before).row) (s.lines j (omega (arith, before, many))))
       ]

@@ -1,4 +1,4 @@
--- The choices of a turn, one column or row after another.
+-- The choices of a pivot, one column or row after another.
 use Rattle.std.proofs.Common.{◌≡◌, ℕ, zero, suc, ◌+◌, ◌-◌, ◌<◌, ◌≤◌, List, [], ◌∷◌, length, drop, get_or, add-one, refl, sym, ◌∙◌, ap, subst, arith, Bool, true, false, ℤ, pos, unsigned_abs}
 use Rattle.std.specs.Prelude.{Option, Some, None, IfSome, if◌then◌else◌, int_lt, nat_lt}
 use Rattle.std.specs.Option.{option_map}
@@ -7,11 +7,11 @@ use Rattle.std.proofs.Math.Seq.{drop-cons}
 use Rattle.exact_num.specs.Fraction.{over}
 use Rattle.simplex_run.specs.Choice.{Ratio, ratio_of, least, Column, smaller}
 use Rattle.fraction_tableau.specs.Candidates.{better_of, best_with}
-use Rattle.run_equivalence.specs.Lines.{Line, WholeRow, no_line, whole_row, number_at}
-use Rattle.run_equivalence.specs.WholeTurning.{whole_ratios, least_column}
+use Rattle.run_equivalence.specs.IntegerRows.{IntegerRow, WholeRow, no_integer_row, whole_row, number_at}
+use Rattle.run_equivalence.specs.WholePivoting.{whole_ratios, least_column}
 use Rattle.fraction_tableau.specs.declared.columns.Entering.{Entering}
 use Rattle.fraction_tableau.specs.Labels.{as_column}
-use Rattle.integer_tableau.specs.Rows.{line_in, lines_in, row_at, beside_basics}
+use Rattle.integer_tableau.specs.Rows.{row_in, integer_rows_in, row_at, beside_basics}
 use Rattle.fraction_tableau.specs.Labels.{with_column}
 use Rattle.integer_tableau.proofs.Listed.{IsGap}
 
@@ -61,10 +61,10 @@ inside_of None labels zs h = tt
 inside_of (Some c) labels zs h = let low = least_inside 0 labels zs (as_column c) (sym h) in omega (arith, low)
 
 -- ---- the numbers of a row
-pub in_line : (w : ℕ) (row : List ℤ) (k : ℕ) → k < w → number_at (line_in w row).numbers k ≡ number_at row (k + 1)
-in_line zero row k h = absurd (omega (arith, h))
-in_line (suc w) [] k h = refl
-in_line (suc w) (d ∷ row) k h =
+pub in_row : (w : ℕ) (row : List ℤ) (k : ℕ) → k < w → number_at (row_in w row).numbers k ≡ number_at row (k + 1)
+in_row zero row k h = absurd (omega (arith, h))
+in_row (suc w) [] k h = refl
+in_row (suc w) (d ∷ row) k h =
     let next : suc k ≡ k + 1 = sym (add-one k) in
     get_or-take (suc w) row k (pos 0) h ∙ ap (λ (n : ℕ). number_at (d ∷ row) n) next
 
@@ -77,7 +77,7 @@ unfolding least
 best_joined None q qs = refl
 best_joined (Some b) q qs = refl
 
-pub chooses_taken : (columns c : ℕ) (rows : List WholeRow) (i basic : ℕ) (l : Line) (best : Option Ratio) → drop i rows ≡ whole_row basic l ∷ drop (suc i) rows → int_lt (pos 0) (number_at l.numbers c) ≡ true → Chooses columns c rows i best
+pub chooses_taken : (columns c : ℕ) (rows : List WholeRow) (i basic : ℕ) (l : IntegerRow) (best : Option Ratio) → drop i rows ≡ whole_row basic l ∷ drop (suc i) rows → int_lt (pos 0) (number_at l.numbers c) ≡ true → Chooses columns c rows i best
     → Chooses columns c rows (i + 1) (Some (better_of best (ratio_of i basic (over (number_at l.numbers columns) (unsigned_abs (number_at l.numbers c))))))
 unfolding whole_ratios
 chooses_taken columns c rows i basic l best front above h =
@@ -85,7 +85,7 @@ chooses_taken columns c rows i basic l best front above h =
     let whole = rw above at (rw front at h) in
     rw next (sym (best_joined best (ratio_of i basic (over (number_at l.numbers columns) (unsigned_abs (number_at l.numbers c)))) (whole_ratios columns c (i + 1) (drop (suc i) rows))) ∙ whole)
 
-pub chooses_passed : (columns c : ℕ) (rows : List WholeRow) (i basic : ℕ) (l : Line) (best : Option Ratio) → drop i rows ≡ whole_row basic l ∷ drop (suc i) rows → int_lt (pos 0) (number_at l.numbers c) ≡ false → Chooses columns c rows i best
+pub chooses_passed : (columns c : ℕ) (rows : List WholeRow) (i basic : ℕ) (l : IntegerRow) (best : Option Ratio) → drop i rows ≡ whole_row basic l ∷ drop (suc i) rows → int_lt (pos 0) (number_at l.numbers c) ≡ false → Chooses columns c rows i best
     → Chooses columns c rows (i + 1) best
 unfolding whole_ratios
 chooses_passed columns c rows i basic l best front below h =
@@ -99,35 +99,35 @@ chooses_end columns c rows i best high h =
     rw none at h
 
 -- ---- the rows beside their basic variables
-pub front_beside : (bs : List ℕ) (lines : List Line) (i : ℕ) (l : Line) → i < length bs → i < length lines → drop i (beside_basics bs lines) ≡ whole_row (get_or bs i 0) (get_or lines i l) ∷ drop (suc i) (beside_basics bs lines)
+pub front_beside : (bs : List ℕ) (lines : List IntegerRow) (i : ℕ) (l : IntegerRow) → i < length bs → i < length lines → drop i (beside_basics bs lines) ≡ whole_row (get_or bs i 0) (get_or lines i l) ∷ drop (suc i) (beside_basics bs lines)
 front_beside [] lines i l p q = absurd (omega (arith, p))
 front_beside (b ∷ bs) [] i l p q = absurd (omega (arith, q))
 front_beside (b ∷ bs) (x ∷ lines) zero l p q = refl
 front_beside (b ∷ bs) (x ∷ lines) (suc i) l p q = front_beside bs lines i l (omega (arith, p)) (omega (arith, q))
 
-pub length-beside : (bs : List ℕ) (lines : List Line) → length bs ≡ length lines → length (beside_basics bs lines) ≡ length lines
+pub length-beside : (bs : List ℕ) (lines : List IntegerRow) → length bs ≡ length lines → length (beside_basics bs lines) ≡ length lines
 length-beside [] [] e = refl
 length-beside [] (x ∷ lines) e = e
 length-beside (b ∷ bs) [] e = refl
 length-beside (b ∷ bs) (x ∷ lines) e = ap suc (length-beside bs lines (omega (arith, e)))
 
-pub line_place : (w : ℕ) (rows : List (List ℤ)) (i : ℕ) (d : Line) → i < length rows → get_or (lines_in w rows) i d ≡ line_in w (row_at rows i)
-line_place w [] i d h = absurd (omega (arith, h))
-line_place w (x ∷ rows) zero d h = refl
-line_place w (x ∷ rows) (suc i) d h = line_place w rows i d (omega (arith, h))
+pub row_place : (w : ℕ) (rows : List (List ℤ)) (i : ℕ) (d : IntegerRow) → i < length rows → get_or (integer_rows_in w rows) i d ≡ row_in w (row_at rows i)
+row_place w [] i d h = absurd (omega (arith, h))
+row_place w (x ∷ rows) zero d h = refl
+row_place w (x ∷ rows) (suc i) d h = row_place w rows i d (omega (arith, h))
 
 -- rows that are 0 in the column do not limit it
 pub chooses_on : (columns c : ℕ) (bs : List ℕ) (rows : List (List ℤ)) (i k : ℕ) (best : Option Ratio) → c < columns → length bs ≡ length rows → IsGap c i k rows
-    → Chooses columns c (beside_basics bs (lines_in (columns + 1) rows)) i best → Chooses columns c (beside_basics bs (lines_in (columns + 1) rows)) k best
+    → Chooses columns c (beside_basics bs (integer_rows_in (columns + 1) rows)) i best → Chooses columns c (beside_basics bs (integer_rows_in (columns + 1) rows)) k best
 chooses_on columns c bs rows i k best column same gap g = on (k - i) i (let low = gap.low in omega (arith, low)) gap g
   where
-    on : (d i : ℕ) → i + d ≡ k → IsGap c i k rows → Chooses columns c (beside_basics bs (lines_in (columns + 1) rows)) i best → Chooses columns c (beside_basics bs (lines_in (columns + 1) rows)) k best
-    on zero i e gap g = subst (λ (n : ℕ). Chooses columns c (beside_basics bs (lines_in (columns + 1) rows)) n best) (omega (arith, e)) g
+    on : (d i : ℕ) → i + d ≡ k → IsGap c i k rows → Chooses columns c (beside_basics bs (integer_rows_in (columns + 1) rows)) i best → Chooses columns c (beside_basics bs (integer_rows_in (columns + 1) rows)) k best
+    on zero i e gap g = subst (λ (n : ℕ). Chooses columns c (beside_basics bs (integer_rows_in (columns + 1) rows)) n best) (omega (arith, e)) g
     on (suc d) i e gap g =
-        let lines = lines_in (columns + 1) rows in
+        let lines = integer_rows_in (columns + 1) rows in
         let high = gap.high in
         let inside : i < length rows = omega (arith, e, high) in
-        let front = front_beside bs lines i no_line (omega (arith, inside, same)) (omega (arith, inside, length-map rows (line_in (columns + 1)))) in
-        let zero_there = ap (λ (l : Line). number_at l.numbers c) (line_place (columns + 1) rows i no_line inside) ∙ in_line (columns + 1) (row_at rows i) c (omega (arith, column)) ∙ gap.zero i (omega arith) (omega (arith, e)) in
+        let front = front_beside bs lines i no_integer_row (omega (arith, inside, same)) (omega (arith, inside, length-map rows (row_in (columns + 1)))) in
+        let zero_there = ap (λ (l : IntegerRow). number_at l.numbers c) (row_place (columns + 1) rows i no_integer_row inside) ∙ in_row (columns + 1) (row_at rows i) c (omega (arith, column)) ∙ gap.zero i (omega arith) (omega (arith, e)) in
         on d (i + 1) (omega (arith, e)) (record { low = omega (arith, e); high = high; zero = λ j p q. gap.zero j (omega (arith, p)) q })
-        (chooses_passed columns c (beside_basics bs lines) i (get_or bs i 0) (get_or lines i no_line) best front (ap (int_lt (pos 0)) zero_there) g)
+        (chooses_passed columns c (beside_basics bs lines) i (get_or bs i 0) (get_or lines i no_integer_row) best front (ap (int_lt (pos 0)) zero_there) g)

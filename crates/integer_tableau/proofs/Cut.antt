@@ -1,13 +1,13 @@
--- A line that is cut, number after number.
+-- A row that is cut, number after number.
 use Rattle.std.proofs.Common.{◌≡◌, ℕ, ◌<◌, ◌≤◌, List, [], ◌∷◌, map, arith, refl, sym, ◌∙◌, ap, subst, ℤ, pos, int_div, true, false}
 use Rattle.std.specs.Int.{◌∣◌}
 use Rattle.std.proofs.lemmas.Bool.{le-leb}
 use Rattle.std.proofs.lemmas.Nat.Gcd.{le_of_dvd}
 use Rattle.std.proofs.Math.Nat.{pos_of_dvd_of_pos, div-one}
 use Rattle.arithmetic.proofs.Quotients.{int_div-one}
-use Rattle.run_equivalence.specs.Lines.{Line, line_of, line_fits, line_size, widest}
-use Rattle.run_equivalence.specs.WholeTurning.{common_of, cut, cut_where_wide, divided_by}
-use Rattle.run_equivalence.proofs.LineSteps.{content_denominator, content_in_order, sizes_least}
+use Rattle.run_equivalence.specs.IntegerRows.{IntegerRow, integer_row, row_fits, row_size, widest}
+use Rattle.run_equivalence.specs.WholePivoting.{common_of, cut, cut_where_wide, divided_by}
+use Rattle.run_equivalence.proofs.IntegerRowSteps.{content_denominator, content_in_order, sizes_least}
 
 common_divides : (d : ℕ) (zs : List ℤ) → common_of d zs ∣ d
 common_divides d zs = subst (λ (c : ℕ). c ∣ d) (sym (content_in_order d zs)) (content_denominator d zs)
@@ -18,30 +18,30 @@ common_above d c zs p e = subst (λ w. 0 < w) (sym e) (pos_of_dvd_of_pos (common
 pub common_below : (d c n : ℕ) (zs : List ℤ) → 0 < d → d < n → c ≡ common_of d zs → c < n
 common_below d c n zs p h e = let l : common_of d zs ≤ d = le_of_dvd p (common_divides d zs) in omega (arith, l, h, e)
 
--- the line that is written
+-- the row that is written
 abbrev pub quotients : ℕ → List ℤ → List ℤ
 quotients c zs = map (λ z. int_div z (pos c)) zs
 
-pub cut_is : (d c : ℕ) (zs : List ℤ) → c ≡ common_of d zs → divided_by c (line_of d zs) ≡ cut (line_of d zs)
+pub cut_is : (d c : ℕ) (zs : List ℤ) → c ≡ common_of d zs → divided_by c (integer_row d zs) ≡ cut (integer_row d zs)
 unfolding cut
-cut_is d c zs e = ap (λ w. divided_by w (line_of d zs)) (e ∙ content_in_order d zs)
+cut_is d c zs e = ap (λ w. divided_by w (integer_row d zs)) (e ∙ content_in_order d zs)
 
-pub whole_is : (d : ℕ) (zs : List ℤ) → divided_by 1 (line_of d zs) ≡ line_of d zs
-whole_is d zs = (λ i. line_of (div-one d i) (quotients_of_one zs i))
+pub whole_is : (d : ℕ) (zs : List ℤ) → divided_by 1 (integer_row d zs) ≡ integer_row d zs
+whole_is d zs = (λ i. integer_row (div-one d i) (quotients_of_one zs i))
   where
     quotients_of_one : (zs : List ℤ) → quotients 1 zs ≡ zs
     quotients_of_one [] = refl
     quotients_of_one (z ∷ zs) = λ i. int_div-one z i ∷ quotients_of_one zs i
 
--- ---- a line that 64 bits hold stays, and any other is cut
-pub short_line_stays : (d : ℕ) (zs : List ℤ) → line_fits widest (line_of d zs) ≡ true → line_of d zs ≡ cut_where_wide (line_of d zs)
+-- ---- a row that 64 bits hold stays, and any other is cut
+pub short_row_stays : (d : ℕ) (zs : List ℤ) → row_fits widest (integer_row d zs) ≡ true → integer_row d zs ≡ cut_where_wide (integer_row d zs)
 unfolding cut_where_wide
-short_line_stays d zs h = rw h refl
+short_row_stays d zs h = rw h refl
 
-pub wide_line_cut : (d : ℕ) (zs : List ℤ) → line_fits widest (line_of d zs) ≡ false → cut (line_of d zs) ≡ cut_where_wide (line_of d zs)
+pub wide_row_cut : (d : ℕ) (zs : List ℤ) → row_fits widest (integer_row d zs) ≡ false → cut (integer_row d zs) ≡ cut_where_wide (integer_row d zs)
 unfolding cut_where_wide
-wide_line_cut d zs h = rw h refl
+wide_row_cut d zs h = rw h refl
 
-pub size_stays : (l : Line) → line_size l ≤ widest → l ≡ cut_where_wide l
+pub size_stays : (l : IntegerRow) → row_size l ≤ widest → l ≡ cut_where_wide l
 unfolding cut_where_wide
-size_stays l h = let short : line_fits widest l ≡ true = sizes_least widest l ∙ le-leb (line_size l) widest h in rw short refl
+size_stays l h = let short : row_fits widest l ≡ true = sizes_least widest l ∙ le-leb (row_size l) widest h in rw short refl

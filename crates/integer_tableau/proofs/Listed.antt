@@ -3,7 +3,7 @@ use Rattle.std.proofs.Common.{◌≡◌, ℕ, zero, suc, ◌+◌, ◌<◌, ◌�
 use Rattle.std.proofs.lemmas.List.{length-map, get_or_default}
 use Rattle.exact_num.specs.Fraction.{whole}
 use Rattle.fraction_tableau.proofs.Nonzero.{place_below}
-use Rattle.run_equivalence.specs.Lines.{number_at}
+use Rattle.run_equivalence.specs.IntegerRows.{number_at}
 use Rattle.integer_tableau.specs.Rows.{column_in, nonzero_in, row_at}
 use Rattle.integer_tableau.proofs.Sparse.{rising, zero_first, zero_between}
 

@@ -10,11 +10,11 @@ use Rattle.arithmetic.specs.Gcd.{gcd}
 use Rattle.arithmetic.proofs.GcdLaws.{gcd-mod, gcd-one, gcd-zero, gcd_comm}
 use Rattle.std.proofs.lemmas.List.{take_more_set, take_more, take_all, get_or-map}
 use Rattle.std.proofs.lemmas.Nat.{le_or_l, le_or_r}
-use Rattle.run_equivalence.specs.WholeTurning.{common_of, cross_difference}
+use Rattle.run_equivalence.specs.WholePivoting.{common_of, cross_difference}
 use Rattle.std.proofs.lemmas.Bool.{and_parts}
 use Rattle.exact_num.specs.Fits.{size_fits}
-use Rattle.run_equivalence.specs.Lines.{AreSizes, line_of, line_size, numbers_fit, number_at, widest}
-use Rattle.run_equivalence.proofs.LineSteps.{size_at_most}
+use Rattle.run_equivalence.specs.IntegerRows.{AreSizes, integer_row, row_size, numbers_fit, number_at, widest}
+use Rattle.run_equivalence.proofs.IntegerRowSteps.{size_at_most}
 
 pub held_64 : (z : ℤ) → unsigned_abs z ≤ widest → FitsSigned w64 z
 held_64 z h = fits_signed_from_abs w64 z (omega (arith, h))
@@ -61,8 +61,8 @@ sizes_all s i (z ∷ zs) over h zero = h 0 (omega (arith, over))
 sizes_all s zero (z ∷ zs) over h (suc j) = absurd (omega (arith, over))
 sizes_all s (suc i) (z ∷ zs) over h (suc j) = sizes_all s i zs (omega (arith, over)) (λ k p. h (suc k) (omega (arith, p))) j
 
--- with a denominator it is one of the line
-pub size_made : (s d : ℕ) (zs : List ℤ) → AreSizes s zs → line_size (line_of d zs) ≤ bit_or s d
+-- with a denominator it is one of the row
+pub size_made : (s d : ℕ) (zs : List ℤ) → AreSizes s zs → row_size (integer_row d zs) ≤ bit_or s d
 size_made s d zs h = size_at_most (bit_or s d) d zs (le_or_r s d) (λ j. let low = h j in let more = le_or_l s d in omega (arith, low, more))
 
 -- ---- what numbers have in common

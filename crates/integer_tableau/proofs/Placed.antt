@@ -1,52 +1,52 @@
--- The pivot row of a turn, once it is placed.
+-- The pivot row of a pivot, once it is placed.
 use Rattle.std.proofs.Common.{◌≡◌, ℕ, ◌+◌, ◌-◌, ◌^◌, ◌<◌, ◌≤◌, List, length, drop, refl, sym, ◌∙◌, ap, subst, arith, Bool, true, false, ℤ, pos, unsigned_abs}
 use Rattle.std.specs.Prelude.{nat_le}
 use Rattle.std.specs.Int.{int_signum}
 use Rattle.std.proofs.lemmas.Bool.{leb-true, leb-false}
 use Rattle.std.proofs.lemmas.List.{get_or_past, length-drop, length-take-le}
-use Rattle.run_equivalence.specs.Lines.{Line, AreSizes, IsLine, line_size, number_at, widest}
-use Rattle.run_equivalence.specs.WholeTurning.{cut, turned_in}
-use Rattle.run_equivalence.proofs.LineSteps.{cut_within, sizes_bound}
-use Rattle.integer_tableau.specs.Rows.{IsEliminated, IsPivot, column_in, line_in, nonzero_in, row_at}
+use Rattle.run_equivalence.specs.IntegerRows.{IntegerRow, AreSizes, IsIntegerRow, row_size, number_at, widest}
+use Rattle.run_equivalence.specs.WholePivoting.{cut, exchanged_in}
+use Rattle.run_equivalence.proofs.IntegerRowSteps.{cut_within, sizes_bound}
+use Rattle.integer_tableau.specs.Rows.{IsEliminated, IsPivot, column_in, row_in, nonzero_in, row_at}
 use Rattle.integer_tableau.specs.Stored.{AreStored, HasSigns, IsKnown, IsPlacedAt, is_wide_at, rows_in}
-use Rattle.integer_tableau.specs.declared.mix.Known.{Known}
+use Rattle.integer_tableau.specs.declared.mix.PivotRow.{PivotRow}
 use Rattle.integer_tableau.specs.declared.rows.Rows.{Rows}
-use Rattle.integer_tableau.proofs.Choosing.{in_line}
+use Rattle.integer_tableau.proofs.Choosing.{in_row}
 use Rattle.integer_tableau.proofs.Eliminating.{eliminated_by_less}
 use Rattle.integer_tableau.proofs.Standing.{row_standing_short, row_standing_wide, rows_many}
 use Rattle.integer_tableau.proofs.Stored.{nonzero_by_signs}
 use Rattle.integer_tableau.proofs.Turned.{IsPlaced, listed_still, placed, placed_size}
 use Rattle.integer_tableau.proofs.Written.{stored_after}
 
--- lines that have the same signs are not 0 at the same places
-line_by_signs : (w : ℕ) (xs ys : List ℤ) → HasSigns w xs ys → length (line_in w xs).numbers ≡ w → length (line_in w ys).numbers ≡ w → nonzero_in (line_in w xs).numbers ≡ nonzero_in (line_in w ys).numbers
-line_by_signs w xs ys h long wide = nonzero_by_signs (line_in w xs).numbers (line_in w ys).numbers (long ∙ sym wide) (λ j. step j (nat_le w j) refl)
+-- rows that have the same signs are not 0 at the same places
+row_by_signs : (w : ℕ) (xs ys : List ℤ) → HasSigns w xs ys → length (row_in w xs).numbers ≡ w → length (row_in w ys).numbers ≡ w → nonzero_in (row_in w xs).numbers ≡ nonzero_in (row_in w ys).numbers
+row_by_signs w xs ys h long wide = nonzero_by_signs (row_in w xs).numbers (row_in w ys).numbers (long ∙ sym wide) (λ j. step j (nat_le w j) refl)
   where
-    step : (j : ℕ) (b : Bool) → nat_le w j ≡ b → int_signum (number_at (line_in w xs).numbers j) ≡ int_signum (number_at (line_in w ys).numbers j)
+    step : (j : ℕ) (b : Bool) → nat_le w j ≡ b → int_signum (number_at (row_in w xs).numbers j) ≡ int_signum (number_at (row_in w ys).numbers j)
     step j false e =
         let low : j < w = leb-false _ _ e in
-        ap int_signum (in_line w xs j low) ∙ h (j + 1) (omega (arith, low)) ∙ ap int_signum (sym (in_line w ys j low))
+        ap int_signum (in_row w xs j low) ∙ h (j + 1) (omega (arith, low)) ∙ ap int_signum (sym (in_row w ys j low))
     step j true e =
         let high : w ≤ j = leb-true _ _ e in
-        ap int_signum (get_or_past (line_in w xs).numbers j (pos 0) (omega (arith, high, long)) ∙ sym (get_or_past (line_in w ys).numbers j (pos 0) (omega (arith, high, wide))))
+        ap int_signum (get_or_past (row_in w xs).numbers j (pos 0) (omega (arith, high, long)) ∙ sym (get_or_past (row_in w ys).numbers j (pos 0) (omega (arith, high, wide))))
 
 module _ {limit w c r a most : ℕ} {old new : Rows} (pivot : IsPivot w c r (rows_in old)) (stored : AreStored limit w old) (g : IsPlacedAt w c r a most old new) where
   pub is_placed : IsPlaced limit w a (row_at (rows_in new) r)
   is_placed = placed limit w c r a (rows_in old) (row_at (rows_in new) r) pivot stored.lines g.denominator g.line
 
-  leaving : IsLine limit w (cut (line_in w (row_at (rows_in old) r)))
-  leaving = cut_within limit w (line_in w (row_at (rows_in old) r)) (stored.lines r pivot.row)
+  leaving : IsIntegerRow limit w (cut (row_in w (row_at (rows_in old) r)))
+  leaving = cut_within limit w (row_in w (row_at (rows_in old) r)) (stored.lines r pivot.row)
 
-  own : IsLine (line_size (line_in w (row_at (rows_in new) r))) w (line_in w (row_at (rows_in new) r))
-  own = sizes_bound w (line_in w (row_at (rows_in new) r)) (record { positive = is_placed.line.positive; count = is_placed.line.count })
+  own : IsIntegerRow (row_size (row_in w (row_at (rows_in new) r))) w (row_in w (row_at (rows_in new) r))
+  own = sizes_bound w (row_in w (row_at (rows_in new) r)) (record { positive = is_placed.line.positive; count = is_placed.line.count })
 
-  over_a : a ≤ line_size (line_in w (row_at (rows_in new) r))
-  over_a = subst (λ (k : ℕ). k ≤ line_size (line_in w (row_at (rows_in new) r))) (ap (λ (l : Line). l.denominator) g.line) own.below
+  over_a : a ≤ row_size (row_in w (row_at (rows_in new) r))
+  over_a = subst (λ (k : ℕ). k ≤ row_size (row_in w (row_at (rows_in new) r))) (ap (λ (l : IntegerRow). l.denominator) g.line) own.below
 
   row_inside : r < length new.short.rows
   row_inside = let count = g.written.count.count in let low = pivot.row in omega (arith, low, count, rows_many old)
 
-  pub sizes_low : AreSizes most (line_in w (row_at (rows_in new) r)).numbers
+  pub sizes_low : AreSizes most (row_in w (row_at (rows_in new) r)).numbers
   sizes_low j = let low = own.sizes j in let size = g.size in omega (arith, low, size)
 
   a_low : a ≤ most
@@ -56,35 +56,35 @@ module _ {limit w c r a most : ℕ} {old new : Rows} (pivot : IsPivot w c r (row
   placed_stored = stored_after limit w r old new stored g.written is_placed.line
 
   -- the short row that is read has the numbers or their signs
-  places_read : (p : List ℤ) → w < length p → p ≡ row_at new.short.rows r → nonzero_in (line_in w p).numbers ≡ nonzero_in (line_in w (row_at (rows_in new) r)).numbers
+  places_read : (p : List ℤ) → w < length p → p ≡ row_at new.short.rows r → nonzero_in (row_in w p).numbers ≡ nonzero_in (row_in w (row_at (rows_in new) r)).numbers
   places_read p wide is = step (is_wide_at new r) refl
     where
-      step : (b : Bool) → is_wide_at new r ≡ b → nonzero_in (line_in w p).numbers ≡ nonzero_in (line_in w (row_at (rows_in new) r)).numbers
-      step false e = ap (λ (z : List ℤ). nonzero_in (line_in w z).numbers) (is ∙ sym (row_standing_short new r e))
+      step : (b : Bool) → is_wide_at new r ≡ b → nonzero_in (row_in w p).numbers ≡ nonzero_in (row_in w (row_at (rows_in new) r)).numbers
+      step false e = ap (λ (z : List ℤ). nonzero_in (row_in w z).numbers) (is ∙ sym (row_standing_short new r e))
       step true e =
           let standing = row_standing_wide new r row_inside e in
           let signs = subst (λ (z : List ℤ). HasSigns w p z) (sym standing) (subst (λ (z : List ℤ). HasSigns w z (row_at new.wide.rows r)) (sym is) (g.written.stored.signs e)) in
-          line_by_signs w p (row_at (rows_in new) r) signs (length-take-le w (drop 1 p) (omega (arith, wide, length-drop 1 p))) is_placed.line.count
+          row_by_signs w p (row_at (rows_in new) r) signs (length-take-le w (drop 1 p) (omega (arith, wide, length-drop 1 p))) is_placed.line.count
 
-  pub leaving_size : line_size (cut (line_in w (row_at (rows_in old) r))) ≤ most
-  leaving_size = placed_size limit w c a most (cut (line_in w (row_at (rows_in old) r))) (row_at (rows_in new) r) leaving pivot.column g.denominator g.line sizes_low a_low
+  pub leaving_size : row_size (cut (row_in w (row_at (rows_in old) r))) ≤ most
+  leaving_size = placed_size limit w c a most (cut (row_in w (row_at (rows_in old) r))) (row_at (rows_in new) r) leaving pivot.column g.denominator g.line sizes_low a_low
 
   pub placed_column : nonzero_in (column_in c (rows_in new)) ≡ nonzero_in (column_in c (rows_in old))
   placed_column =
       ap (λ (s : List (List ℤ)). nonzero_in (column_in c s)) g.written.row
-      ∙ listed_still w c r a (rows_in old) (row_at (rows_in new) r) (cut (line_in w (row_at (rows_in old) r))) pivot g.line leaving.positive leaving.count
+      ∙ listed_still w c r a (rows_in old) (row_at (rows_in new) r) (cut (row_in w (row_at (rows_in old) r))) pivot g.line leaving.positive leaving.count
 
-  -- what a pivot makes of a line, by the line that leaves
-  pub pivoted_line : (l m : Line) → IsEliminated limit c a most (line_in w (row_at (rows_in new) r)).numbers l m
-      → IsEliminated limit c (unsigned_abs (number_at (cut (line_in w (row_at (rows_in old) r))).numbers c)) (line_size (cut (line_in w (row_at (rows_in old) r)))) (turned_in c (cut (line_in w (row_at (rows_in old) r)))) l m
-  pivoted_line l m e =
-      let leaves = line_size (cut (line_in w (row_at (rows_in old) r))) in
-      subst (λ (q : ℕ). IsEliminated limit c q leaves (turned_in c (cut (line_in w (row_at (rows_in old) r)))) l m) g.denominator
-      (subst (λ (k : Line). IsEliminated limit c a leaves k.numbers l m) g.line (eliminated_by_less limit c a leaves most _ l m leaving_size e))
+  -- what a pivot makes of a row, by the row that leaves
+  pub pivoted_row : (l m : IntegerRow) → IsEliminated limit c a most (row_in w (row_at (rows_in new) r)).numbers l m
+      → IsEliminated limit c (unsigned_abs (number_at (cut (row_in w (row_at (rows_in old) r))).numbers c)) (row_size (cut (row_in w (row_at (rows_in old) r)))) (exchanged_in c (cut (row_in w (row_at (rows_in old) r)))) l m
+  pivoted_row l m e =
+      let leaves = row_size (cut (row_in w (row_at (rows_in old) r))) in
+      subst (λ (q : ℕ). IsEliminated limit c q leaves (exchanged_in c (cut (row_in w (row_at (rows_in old) r)))) l m) g.denominator
+      (subst (λ (k : IntegerRow). IsEliminated limit c a leaves k.numbers l m) g.line (eliminated_by_less limit c a leaves most _ l m leaving_size e))
 
 -- the places are those of the short row, which is read
-pub placed_known : {k : Known} {w : ℕ} {old new : Rows} (p : List ℤ) → IsPivot w k.step.c k.step.r (rows_in old) → AreStored k.step.limit w old → IsPlacedAt w k.step.c k.step.r k.a k.most old new → (widest ≤ k.step.limit) × (k.step.limit ≤ 2 ^ 127 - 1)
-    → w < length p → p ≡ row_at new.short.rows k.step.r → k.places.now ≡ nonzero_in (line_in w p).numbers → IsKnown k w new
+pub placed_known : {k : PivotRow} {w : ℕ} {old new : Rows} (p : List ℤ) → IsPivot w k.step.c k.step.r (rows_in old) → AreStored k.step.limit w old → IsPlacedAt w k.step.c k.step.r k.a k.most old new → (widest ≤ k.step.limit) × (k.step.limit ≤ 2 ^ 127 - 1)
+    → w < length p → p ≡ row_at new.short.rows k.step.r → k.places.now ≡ nonzero_in (row_in w p).numbers → IsKnown k w new
 placed_known {k} {w} {old} {new} p pivot stored g limit wide is places =
     let placed = is_placed pivot stored g in
     record {

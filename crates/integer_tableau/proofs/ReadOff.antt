@@ -11,13 +11,13 @@ use Rattle.exact_num.specs.Fits.{div_of, meaning}
 use Rattle.exact_num.proofs.Values.{whole_is_lowest}
 use Rattle.simplex_run.specs.Places.{fraction_zero}
 use Rattle.fraction_tableau.proofs.Reading.{past, filled_found, filled_missing}
-use Rattle.run_equivalence.specs.Lines.{Line, IsLine, WholeRow, whole_row, number_at, entry_of, LineTable}
-use Rattle.run_equivalence.specs.WholeRunning.{whole_where_basic, none_of, whole_price}
+use Rattle.run_equivalence.specs.IntegerRows.{IntegerRow, IsIntegerRow, WholeRow, whole_row, number_at, entry_of, IntegerTable}
+use Rattle.run_equivalence.specs.WholeRunning.{whole_where_basic, none_of, whole_reduced_cost}
 use Rattle.simplex_run.specs.Choice.{Column}
-use Rattle.run_equivalence.proofs.LineSteps.{reduced_zero}
+use Rattle.run_equivalence.proofs.IntegerRowSteps.{reduced_zero}
 use Rattle.run_equivalence.proofs.StepsFit.{quotients_fit}
 use Rattle.integer_tableau.specs.declared.table.WholeTable.{WholeTable}
-use Rattle.integer_tableau.specs.Rows.{beside_basics, line_in, row_at}
+use Rattle.integer_tableau.specs.Rows.{beside_basics, row_in, row_at}
 use Rattle.integer_tableau.specs.Stored.{rows_in}
 use Rattle.integer_tableau.specs.Tables.{IsWithin, direction_entry, width_of}
 use Rattle.integer_tableau.proofs.Stored.{rows_count}
@@ -44,7 +44,7 @@ pub above_zero : (x : Fraction) (c : ℕ) → x ≡ whole (pos c) → 0 < c → 
 above_zero x c e p h = let q : pos c ≡ pos 0 = ap (λ (y : Fraction). y.numerator) (sym e) ∙ h in omega (arith, ints, p, q)
 
 -- ---- the row where a variable is basic
-basic_here : (f : WholeRow → Fraction) (j : ℕ) (bs : List ℕ) (lines : List Line) (i : ℕ) (d : Line) → i < length bs → length bs ≡ length lines → (get_or bs i 0 == j) ≡ true → ((k : ℕ) → k < i → (get_or bs k 0 == j) ≡ false)
+basic_here : (f : WholeRow → Fraction) (j : ℕ) (bs : List ℕ) (lines : List IntegerRow) (i : ℕ) (d : IntegerRow) → i < length bs → length bs ≡ length lines → (get_or bs i 0 == j) ≡ true → ((k : ℕ) → k < i → (get_or bs k 0 == j) ≡ false)
     → whole_where_basic f j (beside_basics bs lines) ≡ f (whole_row (get_or bs i 0) (get_or lines i d))
 unfolding whole_where_basic
 basic_here f j [] lines i d low same here before = absurd (omega (arith, low))
@@ -54,13 +54,13 @@ basic_here f j (b ∷ bs) (l ∷ lines) (suc i) d low same here before =
     let first : (b == j) ≡ false = before 0 (omega arith) in
     rw first (basic_here f j bs lines i d (omega (arith, low)) (omega (arith, same)) here (λ k p. before (suc k) (omega (arith, p))))
 
-pub basic_found : (f : WholeRow → Fraction) (j : ℕ) (bs : List ℕ) (lines : List Line) (i : ℕ) (d : Line) → length bs ≡ length lines → Some i ≡ position (λ b. b == j) bs
+pub basic_found : (f : WholeRow → Fraction) (j : ℕ) (bs : List ℕ) (lines : List IntegerRow) (i : ℕ) (d : IntegerRow) → length bs ≡ length lines → Some i ≡ position (λ b. b == j) bs
     → whole_where_basic f j (beside_basics bs lines) ≡ f (whole_row (get_or bs i 0) (get_or lines i d))
 basic_found f j bs lines i d same h =
     let w = position-Some (λ b. b == j) bs i 0 (sym h) in
     basic_here f j bs lines i d w.0 same w.1 w.2
 
-basic_nowhere : (f : WholeRow → Fraction) (j : ℕ) (bs : List ℕ) (lines : List Line) → length bs ≤ position_or_len (λ b. b == j) bs → whole_where_basic f j (beside_basics bs lines) ≡ fraction_zero
+basic_nowhere : (f : WholeRow → Fraction) (j : ℕ) (bs : List ℕ) (lines : List IntegerRow) → length bs ≤ position_or_len (λ b. b == j) bs → whole_where_basic f j (beside_basics bs lines) ≡ fraction_zero
 unfolding whole_where_basic
 basic_nowhere f j [] lines h = refl
 basic_nowhere f j (b ∷ bs) [] h = refl
@@ -71,20 +71,20 @@ basic_nowhere f j (b ∷ bs) (l ∷ lines) h = step (b == j) h (basic_nowhere f 
     step true k later = absurd (omega (arith, k))
     step false k later = later (omega (arith, k))
 
-pub basic_missing : (f : WholeRow → Fraction) (j : ℕ) (bs : List ℕ) (lines : List Line) → None ≡ position (λ b. b == j) bs → whole_where_basic f j (beside_basics bs lines) ≡ fraction_zero
+pub basic_missing : (f : WholeRow → Fraction) (j : ℕ) (bs : List ℕ) (lines : List IntegerRow) → None ≡ position (λ b. b == j) bs → whole_where_basic f j (beside_basics bs lines) ≡ fraction_zero
 basic_missing f j bs lines h = basic_nowhere f j bs lines (past (λ b. b == j) bs h)
 
 -- ---- the price of a variable that has a column
-pub price_missing : (t : LineTable) (j : ℕ) → 0 < t.objective.denominator → j < t.columns → None ≡ position (λ v. v == j) t.labels → whole_price t j ≡ fraction_zero
+pub price_missing : (t : IntegerTable) (j : ℕ) → 0 < t.objective.denominator → j < t.columns → None ≡ position (λ v. v == j) t.labels → whole_reduced_cost t j ≡ fraction_zero
 price_missing t j p low e = ap (λ z. reduced z t.objective.denominator) (filled_missing none_of j t.columns t.labels t.objective.numbers low e) ∙ reduced_zero t.objective.denominator p
 
-pub price_found : (t : LineTable) (j k : ℕ) → length t.labels ≤ length t.objective.numbers → Some k ≡ position (λ v. v == j) t.labels → whole_price t j ≡ entry_of t.objective k
+pub price_found : (t : IntegerTable) (j k : ℕ) → length t.labels ≤ length t.objective.numbers → Some k ≡ position (λ v. v == j) t.labels → whole_reduced_cost t j ≡ entry_of t.objective k
 price_found t j k long e = ap (λ z. reduced z t.objective.denominator) (filled_found (pos 0) none_of j t.columns t.labels t.objective.numbers k long e)
 
 -- ---- one entry of a direction
-pub entry_other : (c : Column) (j : ℕ) (t : LineTable) → (j ≡ c.label → ⊥) → direction_entry c t j ≡ whole_where_basic (λ row. reduced (neg_ℤ (number_at row.line.numbers c.place)) row.line.denominator) j t.rows
+pub entry_other : (c : Column) (j : ℕ) (t : IntegerTable) → (j ≡ c.label → ⊥) → direction_entry c t j ≡ whole_where_basic (λ row. reduced (neg_ℤ (number_at row.line.numbers c.place)) row.line.denominator) j t.rows
 entry_other c j t e = let other : nat_eq j c.label ≡ false = grind (arith, nat_tests) in rw other refl
 
 -- a row of a table within the limit
-pub line_within : (limit : ℕ) (t : WholeTable) (i : ℕ) → IsWithin limit t → i < length t.rows.short.rows → IsLine limit (width_of t) (line_in (width_of t) (row_at (rows_in t.rows) i))
-line_within limit t i g low = g.rows.lines i (let count = rows_count t.rows.is_wide.items t.rows.short.rows t.rows.wide.rows in omega (arith, low, count))
+pub row_within : (limit : ℕ) (t : WholeTable) (i : ℕ) → IsWithin limit t → i < length t.rows.short.rows → IsIntegerRow limit (width_of t) (row_in (width_of t) (row_at (rows_in t.rows) i))
+row_within limit t i g low = g.rows.lines i (let count = rows_count t.rows.is_wide.items t.rows.short.rows t.rows.wide.rows in omega (arith, low, count))

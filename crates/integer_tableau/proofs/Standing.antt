@@ -1,11 +1,11 @@
 -- A row where it stands, by its flag.
 use Rattle.std.proofs.Common.{◌≡◌, ℕ, ◌^◌, ◌<◌, ◌≤◌, List, length, map, slice_index_or, sym, ◌∙◌, subst, arith, Bool, true, false, ℤ}
 use Rattle.std.proofs.lemmas.List.{get_or_default, map-id}
-use Rattle.run_equivalence.specs.Lines.{line_size, widest}
+use Rattle.run_equivalence.specs.IntegerRows.{row_size, widest}
 use Rattle.integer_tableau.specs.Eliminating.{IsPivotRow}
-use Rattle.integer_tableau.specs.Rows.{AreLinesIn, line_in, row_at}
+use Rattle.integer_tableau.specs.Rows.{AreRowsIn, row_in, row_at}
 use Rattle.integer_tableau.specs.Stored.{AreStored, HasSigns, IsKnown, IsStored, is_wide_at, rows_in, size_at}
-use Rattle.integer_tableau.specs.declared.mix.Known.{Known}
+use Rattle.integer_tableau.specs.declared.mix.PivotRow.{PivotRow}
 use Rattle.integer_tableau.specs.declared.rows.Rows.{Rows}
 use Rattle.integer_tableau.proofs.Stored.{row_short, row_wide, rows_count}
 
@@ -40,9 +40,9 @@ pub record IsStill (j : ℕ) (old new : Rows) : Type 0 where
 pub still_stored : (w j : ℕ) (old new : Rows) → IsStill j old new → IsStored w old j → IsStored w new j
 still_stored w j old new g s =
     record {
-      size = subst (λ (z : List ℤ). line_size (line_in w z) ≤ size_at new j) (sym g.row) (subst (λ (n : ℕ). line_size (line_in w (row_at (rows_in old) j)) ≤ n) (sym g.size) s.size);
+      size = subst (λ (z : List ℤ). row_size (row_in w z) ≤ size_at new j) (sym g.row) (subst (λ (n : ℕ). row_size (row_in w (row_at (rows_in old) j)) ≤ n) (sym g.size) s.size);
       short = λ e. (
-        subst (λ (z : List ℤ). line_size (line_in w z) ≤ widest) (sym g.row) (s.short (sym g.flag ∙ e)).0,
+        subst (λ (z : List ℤ). row_size (row_in w z) ≤ widest) (sym g.row) (s.short (sym g.flag ∙ e)).0,
         subst (λ (n : ℕ). n < 2 ^ 64) (sym g.size) (s.short (sym g.flag ∙ e)).1,
       );
       signs = λ e. subst (λ (z : List ℤ). HasSigns w z (row_at new.wide.rows j)) (sym g.short) (subst (λ (z : List ℤ). HasSigns w (row_at old.short.rows j) z) (sym g.wide) (s.signs (sym g.flag ∙ e)));
@@ -52,10 +52,10 @@ still_stored w j old new g s =
 pub all_stored : (limit w : ℕ) (old new : Rows) → rows_in new ≡ rows_in old → length new.short.rows ≡ length old.short.rows → ((j : ℕ) → j < length old.short.rows → IsStill j old new) → AreStored limit w old → AreStored limit w new
 all_stored limit w old new same count g s =
     record {
-      lines = subst (AreLinesIn limit w) (sym same) s.lines;
+      lines = subst (AreRowsIn limit w) (sym same) s.lines;
       rows = λ j low. let before : j < length old.short.rows = omega (arith, low, count) in still_stored w j old new (g j before) (s.rows j before);
     }
 
 -- the pivot row as words
-pub pivot_words : (k : Known) (w : ℕ) (t : Rows) (p : List ℤ) → IsKnown k w t → row_at (rows_in t) k.step.r ≡ p → IsPivotRow k w (line_in w (map (λ (z : ℤ). z) p)).numbers
-pivot_words k w t p g e = subst (λ (z : List ℤ). IsPivotRow k w (line_in w z).numbers) (e ∙ sym (map-id p)) g.line
+pub pivot_words : (k : PivotRow) (w : ℕ) (t : Rows) (p : List ℤ) → IsKnown k w t → row_at (rows_in t) k.step.r ≡ p → IsPivotRow k w (row_in w (map (λ (z : ℤ). z) p)).numbers
+pivot_words k w t p g e = subst (λ (z : List ℤ). IsPivotRow k w (row_in w z).numbers) (e ∙ sym (map-id p)) g.line

@@ -7,7 +7,7 @@ use Rattle.std.proofs.lemmas.Bool.{lt-ltb, ne_eqb}
 use Rattle.std.proofs.lemmas.List.{set-get_or}
 use Rattle.exact_num.specs.Fraction.{whole}
 use Rattle.fraction_tableau.specs.Nonzero.{nonzero_from}
-use Rattle.run_equivalence.specs.Lines.{number_at}
+use Rattle.run_equivalence.specs.IntegerRows.{number_at}
 use Rattle.integer_tableau.specs.Rows.{nonzero_in, row_at}
 use Rattle.integer_tableau.specs.Stored.{rows_of}
 

@@ -11,9 +11,9 @@ use Rattle.simplex_run.specs.Table.{first_table}
 use Rattle.fraction_tableau.specs.Candidates.{beside_basics as beside_lists, apart}
 use Rattle.fraction_tableau.specs.Programs.{program_of}
 use Rattle.fraction_tableau.proofs.Starts.{AreLong, none_long, rows_given, table_with as fractions_with}
-use Rattle.run_equivalence.specs.Lines.{Line, WholeRow, taken_in, row_taken_in, table_taken_in, multiple, least_multiple, widest}
+use Rattle.run_equivalence.specs.IntegerRows.{IntegerRow, WholeRow, taken_in, row_taken_in, table_taken_in, multiple, least_multiple, widest}
 use Rattle.integer_tableau.specs.Within.{HasMultiple}
-use Rattle.integer_tableau.specs.Rows.{line_in, lines_in, beside_basics}
+use Rattle.integer_tableau.specs.Rows.{row_in, integer_rows_in, beside_basics}
 use Rattle.integer_tableau.specs.Tables.{table_of}
 use Rattle.integer_tableau.proofs.Pivoting.{table_with}
 
@@ -41,12 +41,12 @@ pub multiple_one : (b : ℕ) → multiple 1 b ≡ b
 multiple_one b = let e : gcd 1 b ≡ 1 = gcd_comm 1 b ∙ gcd-one b in ap (λ g. 1 * (b / g)) e ∙ one-mul _ ∙ div-one b
 
 -- ---- one row more
-pub taken_more : (w : ℕ) (lists : List (List Fraction)) (rows : List (List ℤ)) (new : List ℤ) (i : ℕ) → i < length lists → lines_in w rows ≡ take i (map taken_in lists) → line_in w new ≡ taken_in (get_or lists i [])
-    → lines_in w (rows ++ new ∷ []) ≡ take (i + 1) (map taken_in lists)
+pub taken_more : (w : ℕ) (lists : List (List Fraction)) (rows : List (List ℤ)) (new : List ℤ) (i : ℕ) → i < length lists → integer_rows_in w rows ≡ take i (map taken_in lists) → row_in w new ≡ taken_in (get_or lists i [])
+    → integer_rows_in w (rows ++ new ∷ []) ≡ take (i + 1) (map taken_in lists)
 taken_more w lists rows new i low h is_new =
-    map-append (line_in w) rows (new ∷ [])
-    ∙ ap (λ (ls : List Line). ls ++ line_in w new ∷ []) h
-    ∙ ap (λ (l : Line). take i (map taken_in lists) ++ l ∷ []) (is_new ∙ sym (get_or-map taken_in lists i [] (taken_in []) low))
+    map-append (row_in w) rows (new ∷ [])
+    ∙ ap (λ (ls : List IntegerRow). ls ++ row_in w new ∷ []) h
+    ∙ ap (λ (l : IntegerRow). take i (map taken_in lists) ++ l ∷ []) (is_new ∙ sym (get_or-map taken_in lists i [] (taken_in []) low))
     ∙ sym (take_more (map taken_in lists) i (taken_in []) (omega (arith, low, length-map lists taken_in)))
 
 -- ---- the table
@@ -56,7 +56,7 @@ rows_taken (b ∷ bs) [] = refl
 rows_taken (b ∷ bs) (xs ∷ lists) = ap (λ (rows : List WholeRow). row_taken_in (record { basic = b; entries = xs }) ∷ rows) (rows_taken bs lists)
 
 pub table_taken : (N : ℕ) (labels basics : List ℕ) (lists : List (List Fraction)) (objective : List Fraction) (rows : List (List ℤ)) (last : List ℤ) → length labels + length basics ≡ N
-    → lines_in (length labels + 1) rows ≡ map taken_in lists → line_in (length labels + 1) last ≡ taken_in objective
+    → integer_rows_in (length labels + 1) rows ≡ map taken_in lists → row_in (length labels + 1) last ≡ taken_in objective
     → table_of labels basics rows last ≡ table_taken_in (apart N labels basics lists objective)
 table_taken N labels basics lists objective rows last count rows_are last_is =
     let all = ap (beside_basics basics) rows_are ∙ sym (rows_taken basics lists) in

@@ -1,4 +1,4 @@
--- The rows of a turn.
+-- The rows of a pivot.
 use Rattle.std.proofs.Common.{◌≡◌, ℕ, zero, suc, ◌+◌, ◌-◌, ◌<◌, ◌≤◌, List, [], ◌∷◌, length, take, drop, set, add-one, refl, sym, ◌∙◌, ap, subst, arith, true, ℤ, pos, unsigned_abs, to_z, length-set}
 use mir.Syntax.{Width}
 use Rattle.std.specs.Prelude.{nat_le}
@@ -6,13 +6,13 @@ use Rattle.std.proofs.lemmas.Bool.{and_parts, le-leb, leb-true, ne_eqb}
 use Rattle.std.proofs.lemmas.List.{map-set, get_or-set_same}
 use Rattle.std.proofs.lemmas.Slice.{take-put_mid}
 use borrow.Rule.Slice.PartMut.{put_mid}
-use Rattle.run_equivalence.specs.Lines.{Line, IsLine, AreSizes, line_size, line_of, number_at, line_fits, numbers_fit, widest}
-use Rattle.run_equivalence.specs.WholeTurning.{cut}
-use Rattle.run_equivalence.proofs.LineSteps.{cut_within, fit_of_sizes, size_at_most, sizes_bound, sizes_least, set_sizes}
-use Rattle.run_equivalence.proofs.TurnSteps.{size_above, cut_above}
+use Rattle.run_equivalence.specs.IntegerRows.{IntegerRow, IsIntegerRow, AreSizes, row_size, integer_row, number_at, row_fits, numbers_fit, widest}
+use Rattle.run_equivalence.specs.WholePivoting.{cut}
+use Rattle.run_equivalence.proofs.IntegerRowSteps.{cut_within, fit_of_sizes, size_at_most, sizes_bound, sizes_least, set_sizes}
+use Rattle.run_equivalence.proofs.PivotSteps.{size_above, cut_above}
 use Rattle.integer_tableau.specs.Eliminating.{IsEliminatedBy, IsKept, IsPivotRow, IsShort}
-use Rattle.integer_tableau.specs.declared.mix.Known.{Known}
-use Rattle.integer_tableau.specs.Rows.{column_in, line_in, nonzero_in, row_at, pivot_line, AreLinesIn, IsPivot}
+use Rattle.integer_tableau.specs.declared.mix.PivotRow.{PivotRow}
+use Rattle.integer_tableau.specs.Rows.{column_in, row_in, nonzero_in, row_at, pivot_row_after, AreRowsIn, IsPivot}
 use Rattle.integer_tableau.proofs.Listed.{column_number}
 use Rattle.integer_tableau.proofs.Eliminating.{left_within}
 use Rattle.integer_tableau.proofs.Sparse.{nonzero_set}
@@ -31,24 +31,24 @@ taken_number (suc w) (x ∷ xs) zero h = refl
 taken_number (suc w) (x ∷ xs) (suc c) h = taken_number w xs c (omega (arith, h))
 
 pub pivoted_front : (w c : ℕ) (row : List ℤ) → c < w → c + 1 < length row
-    → line_in w (set (set row 0 (number_at row (c + 1))) (c + 1) (pos (unsigned_abs (number_at row 0)))) ≡ pivot_line c (unsigned_abs (number_at (line_in w row).numbers c)) (line_in w row)
+    → row_in w (set (set row 0 (number_at row (c + 1))) (c + 1) (pos (unsigned_abs (number_at row 0)))) ≡ pivot_row_after c (unsigned_abs (number_at (row_in w row).numbers c)) (row_in w row)
 pivoted_front w c [] h low = absurd (omega (arith, low))
 pivoted_front w c (d ∷ xs) h low =
     let next = add-one c in
     let number = taken_number w xs c h in
-    rw (next, number) (ap (line_of (unsigned_abs (number_at xs c))) (take_set w c xs (pos (unsigned_abs d)) h))
+    rw (next, number) (ap (integer_row (unsigned_abs (number_at xs c))) (take_set w c xs (pos (unsigned_abs d)) h))
 
--- ---- lines within the bound
-pub line_of_sizes : (b n : ℕ) (l : Line) → IsLine b n l → line_fits b l ≡ true
-line_of_sizes b n l g =
+-- ---- rows within the bound
+pub row_of_sizes : (b n : ℕ) (l : IntegerRow) → IsIntegerRow b n l → row_fits b l ≡ true
+row_of_sizes b n l g =
     let first = le-leb l.denominator b g.below in
     let later = fit_of_sizes b l.numbers (λ j _. g.sizes j) in
     rw (first, later) refl
 
-pub line_wider : (b c n : ℕ) (l : Line) → b ≤ c → IsLine b n l → IsLine c n l
-line_wider b c n l low g = record { positive = g.positive; below = (let p = g.below in omega (arith, low, p)); sizes = λ j. (let p = g.sizes j in omega (arith, low, p)); count = g.count }
+pub row_wider : (b c n : ℕ) (l : IntegerRow) → b ≤ c → IsIntegerRow b n l → IsIntegerRow c n l
+row_wider b c n l low g = record { positive = g.positive; below = (let p = g.below in omega (arith, low, p)); sizes = λ j. (let p = g.sizes j in omega (arith, low, p)); count = g.count }
 
-pub pivot_within : (b n c : ℕ) (l : Line) → c < n → IsLine b n l → 0 < unsigned_abs (number_at l.numbers c) → IsLine b n (pivot_line c (unsigned_abs (number_at l.numbers c)) l)
+pub pivot_within : (b n c : ℕ) (l : IntegerRow) → c < n → IsIntegerRow b n l → 0 < unsigned_abs (number_at l.numbers c) → IsIntegerRow b n (pivot_row_after c (unsigned_abs (number_at l.numbers c)) l)
 pivot_within b n c l h g p =
     record {
       positive = p;
@@ -59,25 +59,25 @@ pivot_within b n c l h g p =
 
 -- the pivot row, once it is placed
 pub record IsPlaced (b w a : ℕ) (y : List ℤ) : Type 0 where
-  pub line : IsLine b w (line_in w y)
+  pub line : IsIntegerRow b w (row_in w y)
   pub above : 0 < a
   pub below : a ≤ b
 
-pub placed : (b w c r a : ℕ) (rows : List (List ℤ)) (y : List ℤ) → IsPivot w c r rows → AreLinesIn b w rows → a ≡ unsigned_abs (number_at (cut (line_in w (row_at rows r))).numbers c)
-    → line_in w y ≡ pivot_line c a (cut (line_in w (row_at rows r))) → IsPlaced b w a y
+pub placed : (b w c r a : ℕ) (rows : List (List ℤ)) (y : List ℤ) → IsPivot w c r rows → AreRowsIn b w rows → a ≡ unsigned_abs (number_at (cut (row_in w (row_at rows r))).numbers c)
+    → row_in w y ≡ pivot_row_after c a (cut (row_in w (row_at rows r))) → IsPlaced b w a y
 placed b w c r a rows y p lines is_a is_y =
-    let x = line_in w (row_at rows r) in
+    let x = row_in w (row_at rows r) in
     let l = cut x in
     let before = lines r p.row in
-    let old : IsLine b w l = cut_within b w x before in
+    let old : IsIntegerRow b w l = cut_within b w x before in
     let above = (size_above (number_at l.numbers c) (cut_above x c before.positive p.above)).1 in
     record {
-      line = subst (IsLine b w) (sym (is_y ∙ ap (λ (q : ℕ). pivot_line c q l) is_a)) (pivot_within b w c l p.column old above);
+      line = subst (IsIntegerRow b w) (sym (is_y ∙ ap (λ (q : ℕ). pivot_row_after c q l) is_a)) (pivot_within b w c l p.column old above);
       above = subst (λ (k : ℕ). 0 < k) (sym is_a) above;
       below = subst (λ (k : ℕ). k ≤ b) (sym is_a) (old.sizes c);
     }
 
--- a size of the front is one of the line there
+-- a size of the front is one of the row there
 pub front_sizes : (b w : ℕ) (row : List ℤ) → AreSizes b (take (w + 1) row) → AreSizes b (take w (drop 1 row)) × (unsigned_abs (number_at row 0) ≤ b)
 front_sizes b w [] s = (none_at w, omega arith)
   where
@@ -90,7 +90,7 @@ front_sizes b w (d ∷ xs) s =
     let same = rw (add-one w) at s in
     (λ j. same (suc j), same 0)
 
--- the sizes of a line whose number in column c is exchanged for the denominator
+-- the sizes of a row whose number in column c is exchanged for the denominator
 pub unset_sizes : (b c : ℕ) (v : ℤ) (zs : List ℤ) → AreSizes b (set zs c v) → unsigned_abs (number_at zs c) ≤ b → AreSizes b zs
 unset_sizes b c v [] s q j = s j
 unset_sizes b zero v (z ∷ zs) s q zero = q
@@ -98,19 +98,19 @@ unset_sizes b zero v (z ∷ zs) s q (suc j) = s (suc j)
 unset_sizes b (suc c) v (z ∷ zs) s q zero = s 0
 unset_sizes b (suc c) v (z ∷ zs) s q (suc j) = unset_sizes b c v zs (λ i. s (suc i)) q j
 
--- the line that leaves is no greater than its row, once that is placed
-pub placed_size : (b w c a most : ℕ) (l : Line) (y : List ℤ) → IsLine b w l → c < w → a ≡ unsigned_abs (number_at l.numbers c) → line_in w y ≡ pivot_line c a l → AreSizes most (line_in w y).numbers → a ≤ most → line_size l ≤ most
+-- the row that leaves is no greater than its row, once that is placed
+pub placed_size : (b w c a most : ℕ) (l : IntegerRow) (y : List ℤ) → IsIntegerRow b w l → c < w → a ≡ unsigned_abs (number_at l.numbers c) → row_in w y ≡ pivot_row_after c a l → AreSizes most (row_in w y).numbers → a ≤ most → row_size l ≤ most
 placed_size b w c a most l y g column is_a is_y sizes low =
-    let set_sizes : AreSizes most (set l.numbers c (pos l.denominator)) = subst (λ (m : Line). AreSizes most m.numbers) is_y sizes in
+    let set_sizes : AreSizes most (set l.numbers c (pos l.denominator)) = subst (λ (m : IntegerRow). AreSizes most m.numbers) is_y sizes in
     let inside : c < length l.numbers = (let count = g.count in omega (arith, column, count)) in
     let own : number_at (set l.numbers c (pos l.denominator)) c ≡ pos l.denominator = get_or-set_same l.numbers c (pos l.denominator) (pos 0) inside in
     let numbers = unset_sizes most c (pos l.denominator) l.numbers set_sizes (subst (λ (k : ℕ). k ≤ most) is_a low) in
     size_at_most most l.denominator l.numbers (subst (λ (z : ℤ). unsigned_abs z ≤ most) own (set_sizes c)) numbers
 
-pub lines_set : (b w : ℕ) (rows : List (List ℤ)) (i : ℕ) (ys : List ℤ) → AreLinesIn b w rows → IsLine b w (line_in w ys) → AreLinesIn b w (set rows i ys)
-lines_set b w rows i ys g l = λ j p. at_place rows i j ys g l p
+pub integer_rows_set : (b w : ℕ) (rows : List (List ℤ)) (i : ℕ) (ys : List ℤ) → AreRowsIn b w rows → IsIntegerRow b w (row_in w ys) → AreRowsIn b w (set rows i ys)
+integer_rows_set b w rows i ys g l = λ j p. at_place rows i j ys g l p
   where
-    at_place : (rows : List (List ℤ)) (i j : ℕ) (ys : List ℤ) → AreLinesIn b w rows → IsLine b w (line_in w ys) → j < length (set rows i ys) → IsLine b w (line_in w (row_at (set rows i ys) j))
+    at_place : (rows : List (List ℤ)) (i j : ℕ) (ys : List ℤ) → AreRowsIn b w rows → IsIntegerRow b w (row_in w ys) → j < length (set rows i ys) → IsIntegerRow b w (row_in w (row_at (set rows i ys) j))
     at_place [] i j ys g l p = absurd (omega (arith, p))
     at_place (x ∷ rows) zero zero ys g l p = l
     at_place (x ∷ rows) zero (suc j) ys g l p = g (suc j) p
@@ -122,13 +122,13 @@ front_number w c [] h = taken_number w [] c h
 front_number w c (d ∷ xs) h = let next = add-one c in rw next (taken_number w xs c h)
 
 -- the pivot row's number in the column is not 0 before it is placed, nor then
-pub listed_still : (w c r a : ℕ) (rows : List (List ℤ)) (y : List ℤ) (l : Line) → IsPivot w c r rows → line_in w y ≡ pivot_line c a l → 0 < l.denominator → length l.numbers ≡ w
+pub listed_still : (w c r a : ℕ) (rows : List (List ℤ)) (y : List ℤ) (l : IntegerRow) → IsPivot w c r rows → row_in w y ≡ pivot_row_after c a l → 0 < l.denominator → length l.numbers ≡ w
     → nonzero_in (column_in c (set rows r y)) ≡ nonzero_in (column_in c rows)
 listed_still w c r a rows y l p is_pivot above wide =
     let column = p.column in
-    let old : number_at (line_in w (row_at rows r)).numbers c ≡ number_at (column_in c rows) r = front_number w c (row_at rows r) column ∙ sym (column_number c rows r) in
-    let size = (size_above (number_at (line_in w (row_at rows r)).numbers c) p.above).1 in
-    let is_new : number_at y (c + 1) ≡ pos l.denominator = sym (front_number w c y column) ∙ ap (λ (m : Line). number_at m.numbers c) is_pivot ∙ get_or-set_same l.numbers c (pos l.denominator) (pos 0) (omega (arith, column, wide)) in
+    let old : number_at (row_in w (row_at rows r)).numbers c ≡ number_at (column_in c rows) r = front_number w c (row_at rows r) column ∙ sym (column_number c rows r) in
+    let size = (size_above (number_at (row_in w (row_at rows r)).numbers c) p.above).1 in
+    let is_new : number_at y (c + 1) ≡ pos l.denominator = sym (front_number w c y column) ∙ ap (λ (m : IntegerRow). number_at m.numbers c) is_pivot ∙ get_or-set_same l.numbers c (pos l.denominator) (pos 0) (omega (arith, column, wide)) in
     let new_size : unsigned_abs (number_at y (c + 1)) ≡ l.denominator = ap unsigned_abs is_new in
     ap nonzero_in (map-set (λ row. number_at row (c + 1)) rows r y)
     ∙ nonzero_set 0 (column_in c rows) r (number_at y (c + 1)) (ne_eqb _ 0 (λ e. omega (arith, e, new_size, above))) (ne_eqb _ 0 (λ e. omega (arith, e, size, ap unsigned_abs old)))
@@ -138,52 +138,52 @@ pub front_of_mid : (w k : ℕ) (row ns : List ℤ) → 0 < length row → length
 front_of_mid w k [] ns p e = absurd (omega (arith, p))
 front_of_mid w k (x ∷ xs) ns p e = take-put_mid 1 k (x ∷ xs) ns (suc w) (omega (arith, e)) (omega arith)
 
-pub written_front : (w : ℕ) (row ns : List ℤ) (x d : ℤ) → take (suc w) row ≡ x ∷ ns → line_in w (set row 0 d) ≡ line_of (unsigned_abs d) ns
+pub written_front : (w : ℕ) (row ns : List ℤ) (x d : ℤ) → take (suc w) row ≡ x ∷ ns → row_in w (set row 0 d) ≡ integer_row (unsigned_abs d) ns
 written_front w [] ns x d e = absurd cc
-written_front w (y ∷ row) ns x d e = ap (λ (zs : List ℤ). line_of (unsigned_abs d) (drop 1 zs)) e
+written_front w (y ∷ row) ns x d e = ap (λ (zs : List ℤ). integer_row (unsigned_abs d) (drop 1 zs)) e
 
-pub taken_front : (w : ℕ) (row ns : List ℤ) (d : ℤ) → take (suc w) row ≡ d ∷ ns → line_in w row ≡ line_of (unsigned_abs d) ns
+pub taken_front : (w : ℕ) (row ns : List ℤ) (d : ℤ) → take (suc w) row ≡ d ∷ ns → row_in w row ≡ integer_row (unsigned_abs d) ns
 taken_front w [] ns d e = absurd cc
-taken_front w (y ∷ row) ns d e = ap (λ (zs : List ℤ). line_of (unsigned_abs (number_at zs 0)) (drop 1 zs)) e
+taken_front w (y ∷ row) ns d e = ap (λ (zs : List ℤ). integer_row (unsigned_abs (number_at zs 0)) (drop 1 zs)) e
 
 -- ---- the objective row
-pub size_below : (size n : ℕ) (l : Line) → IsLine size n l → line_size l ≤ size
+pub size_below : (size n : ℕ) (l : IntegerRow) → IsIntegerRow size n l → row_size l ≤ size
 size_below size n l g = size_at_most size l.denominator l.numbers g.below g.sizes
 
-pub line_below : (limit size n : ℕ) (l : Line) → IsLine limit n l → line_size l ≤ size → IsLine size n l
-line_below limit size n l g low = line_wider (line_size l) size n l low (sizes_bound n l (record { positive = g.positive; count = g.count }))
+pub row_below : (limit size n : ℕ) (l : IntegerRow) → IsIntegerRow limit n l → row_size l ≤ size → IsIntegerRow size n l
+row_below limit size n l g low = row_wider (row_size l) size n l low (sizes_bound n l (record { positive = g.positive; count = g.count }))
 
-pub short_denominator : (d size : ℕ) (ns : List ℤ) → IsShort size (line_of d ns) → d ≤ widest
+pub short_denominator : (d size : ℕ) (ns : List ℤ) → IsShort size (integer_row d ns) → d ≤ widest
 short_denominator d size ns g =
-    let fits : line_fits widest (line_of d ns) ≡ true = sizes_least widest (line_of d ns) ∙ le-leb (line_size (line_of d ns)) widest g.short in
+    let fits : row_fits widest (integer_row d ns) ≡ true = sizes_least widest (integer_row d ns) ∙ le-leb (row_size (integer_row d ns)) widest g.short in
     leb-true _ _ (and_parts (nat_le d widest) (numbers_fit widest ns) fits).0
 
 -- ---- the part of a row behind its denominator, as code takes it
-pub part_count : (bound w : ℕ) (row : List ℤ) → IsLine bound w (line_in w row) → length (take (w + 1 - 1) (drop 1 row)) ≡ w
+pub part_count : (bound w : ℕ) (row : List ℤ) → IsIntegerRow bound w (row_in w row) → length (take (w + 1 - 1) (drop 1 row)) ≡ w
 part_count bound w row g = let same : w + 1 - 1 ≡ w = omega arith in rw same g.count
 
-pub line_part : (bound w kept b : ℕ) (row : List ℤ) → b ≡ unsigned_abs (number_at row 0) → IsKept bound w kept (line_in w row)
-    → IsKept bound (length (take (w + 1 - 1) (drop 1 row))) kept (line_of b (take (w + 1 - 1) (drop 1 row)))
-line_part bound w kept b row size g =
+pub row_part : (bound w kept b : ℕ) (row : List ℤ) → b ≡ unsigned_abs (number_at row 0) → IsKept bound w kept (row_in w row)
+    → IsKept bound (length (take (w + 1 - 1) (drop 1 row))) kept (integer_row b (take (w + 1 - 1) (drop 1 row)))
+row_part bound w kept b row size g =
     let same : w + 1 - 1 ≡ w = omega arith in
-    subst (λ (n : ℕ). IsKept bound n kept (line_of b (take (w + 1 - 1) (drop 1 row)))) (sym (part_count bound w row g.line)) (rw (size, same) g)
+    subst (λ (n : ℕ). IsKept bound n kept (integer_row b (take (w + 1 - 1) (drop 1 row)))) (sym (part_count bound w row g.line)) (rw (size, same) g)
 
-pub pivot_part : (k : Known) (w n : ℕ) (pivot : List ℤ) → n ≡ w → IsPivotRow k w (line_in w pivot).numbers → IsPivotRow k n (take (w + 1 - 1) (drop 1 pivot))
+pub pivot_part : (k : PivotRow) (w n : ℕ) (pivot : List ℤ) → n ≡ w → IsPivotRow k w (row_in w pivot).numbers → IsPivotRow k n (take (w + 1 - 1) (drop 1 pivot))
 pivot_part k w n pivot e g = let same : w + 1 - 1 ≡ w = omega arith in rw (e, same) g
 
--- the row whose line is written back over the denominator d
-pub record IsRowWritten (k : Known) (w : ℕ) (row pivot ns : List ℤ) (d : ℕ) (v : Width) : Type 0 where
-  pub left : IsEliminatedBy k (line_in w pivot).numbers (line_in w row) (line_of d ns)
+-- the row whose row is written back over the denominator d
+pub record IsRowWritten (k : PivotRow) (w : ℕ) (row pivot ns : List ℤ) (d : ℕ) (v : Width) : Type 0 where
+  pub left : IsEliminatedBy k (row_in w pivot).numbers (row_in w row) (integer_row d ns)
   pub below : d ≤ k.step.limit
-  pub written : (to_z v d ≡ pos d) → line_in w (set (put_mid 1 (w + 1 - 1) row ns) 0 (to_z v d)) ≡ line_of d ns
+  pub written : (to_z v d ≡ pos d) → row_in w (set (put_mid 1 (w + 1 - 1) row ns) 0 (to_z v d)) ≡ integer_row d ns
 
--- where its line over b is eliminated by a pivot row of these numbers
-pub row_written : (k : Known) (w b d : ℕ) (row pivot ps ns : List ℤ) (v : Width) → b ≡ unsigned_abs (number_at row 0) → ps ≡ take (w + 1 - 1) (drop 1 pivot) → w < length row → IsPivotRow k w (line_in w pivot).numbers → IsLine k.step.limit w (line_in w row)
-    → IsEliminatedBy k ps (line_of b (take (w + 1 - 1) (drop 1 row))) (line_of d ns) → IsRowWritten k w row pivot ns d v
+-- where its row over b is eliminated by a pivot row of these numbers
+pub row_written : (k : PivotRow) (w b d : ℕ) (row pivot ps ns : List ℤ) (v : Width) → b ≡ unsigned_abs (number_at row 0) → ps ≡ take (w + 1 - 1) (drop 1 pivot) → w < length row → IsPivotRow k w (row_in w pivot).numbers → IsIntegerRow k.step.limit w (row_in w row)
+    → IsEliminatedBy k ps (integer_row b (take (w + 1 - 1) (drop 1 row))) (integer_row d ns) → IsRowWritten k w row pivot ns d v
 row_written k w b d row pivot ps ns v size is wide g line told =
     let same : w + 1 - 1 ≡ w = omega arith in
-    let left : IsEliminatedBy k (line_in w pivot).numbers (line_in w row) (line_of d ns) = rw (size, is, same) at told in
-    let within = left_within k w (line_in w pivot).numbers (line_in w row) (line_of d ns) g line left in
+    let left : IsEliminatedBy k (row_in w pivot).numbers (row_in w row) (integer_row d ns) = rw (size, is, same) at told in
+    let within = left_within k w (row_in w pivot).numbers (row_in w row) (integer_row d ns) g line left in
     let front = front_of_mid w (w + 1 - 1) row ns (omega (arith, wide)) within.count in
     record { left = left; below = within.below; written = λ signed. rw signed (written_front w (put_mid 1 (w + 1 - 1) row ns) ns (number_at row 0) (pos d) front) }
 

@@ -4,8 +4,8 @@ use Rattle.std.specs.Prelude.{slice_index_or}
 use Rattle.std.proofs.Math.Nat.{mul-le-mul}
 use Rattle.std.proofs.lemmas.List.{map-id}
 use Rattle.std.proofs.lemmas.Int.{ints, unsigned_abs-mul}
-use Rattle.run_equivalence.specs.Lines.{AreSizes, number_at}
-use Rattle.run_equivalence.specs.WholeTurning.{cross_difference}
+use Rattle.run_equivalence.specs.IntegerRows.{AreSizes, number_at}
+use Rattle.run_equivalence.specs.WholePivoting.{cross_difference}
 use Rattle.integer_tableau.specs.Rows.{nonzero_in}
 use Rattle.integer_tableau.specs.Within.{AreMixedSizes, HasRoom}
 use Rattle.integer_tableau.proofs.Numbers.{no_size}

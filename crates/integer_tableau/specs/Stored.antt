@@ -1,12 +1,12 @@
 -- Rows of both widths as they are stored, and the rows that they are.
 use Rattle.std.specs.Prelude.{◌≡◌, ℕ, ◌<◌, ◌≤◌, ◌^◌, ◌-◌, List, [], ◌∷◌, ℤ, length, slice_index_or, slice_set, unsigned_abs, if◌then◌else◌, Bool, true, false}
 use Rattle.std.specs.Int.{int_signum}
-use Rattle.run_equivalence.specs.Lines.{line_size, number_at, widest}
-use Rattle.run_equivalence.specs.WholeTurning.{cut}
+use Rattle.run_equivalence.specs.IntegerRows.{row_size, number_at, widest}
+use Rattle.run_equivalence.specs.WholePivoting.{cut}
 use Rattle.integer_tableau.specs.Eliminating.{IsEliminatedBy, IsKept, IsPivotRow, IsShortPivot}
-use Rattle.integer_tableau.specs.Rows.{AreEliminated, AreLinesIn, IsPivot, IsPivoted, column_in, line_in, nonzero_in, pivot_line, row_at}
-use Rattle.integer_tableau.specs.declared.mix.Known.{Known}
-use Rattle.integer_tableau.specs.declared.mix.Step.{Step}
+use Rattle.integer_tableau.specs.Rows.{AreEliminated, AreRowsIn, IsPivot, IsPivoted, column_in, row_in, nonzero_in, pivot_row_after, row_at}
+use Rattle.integer_tableau.specs.declared.mix.PivotRow.{PivotRow}
+use Rattle.integer_tableau.specs.declared.mix.PivotPlace.{PivotPlace}
 use Rattle.integer_tableau.specs.declared.objective.Objective.{Objective}
 use Rattle.integer_tableau.specs.declared.rows.Rows.{Rows}
 
@@ -33,19 +33,19 @@ HasSigns w signs row = (j : ℕ) → j ≤ w → int_signum (number_at signs j) 
 -- row i is of w numbers: it is at most its size. Where it is short 64 bits hold both, and where it
 -- is wide its short row has its signs
 pub record IsStored (w : ℕ) (r : Rows) (i : ℕ) : Type 0 where
-  pub size : line_size (line_in w (row_at (rows_in r) i)) ≤ size_at r i
-  pub short : is_wide_at r i ≡ false → (line_size (line_in w (row_at (rows_in r) i)) ≤ widest) × (size_at r i < 2 ^ 64)
+  pub size : row_size (row_in w (row_at (rows_in r) i)) ≤ size_at r i
+  pub short : is_wide_at r i ≡ false → (row_size (row_in w (row_at (rows_in r) i)) ≤ widest) × (size_at r i < 2 ^ 64)
   pub signs : is_wide_at r i ≡ true → HasSigns w (row_at r.short.rows i) (row_at r.wide.rows i)
 
 -- each row is so, and within the limit
 pub record AreStored (limit w : ℕ) (r : Rows) : Type 0 where
-  pub lines : AreLinesIn limit w (rows_in r)
+  pub lines : AreRowsIn limit w (rows_in r)
   pub rows : (i : ℕ) → i < length r.short.rows → IsStored w r i
 
 -- row r is a pivot row of which this is known
-pub record IsKnown (k : Known) (w : ℕ) (rows : Rows) : Type 0 where
+pub record IsKnown (k : PivotRow) (w : ℕ) (rows : Rows) : Type 0 where
   pub row : k.step.r < length rows.short.rows
-  pub line : IsPivotRow k w (line_in w (row_at (rows_in rows) k.step.r)).numbers
+  pub line : IsPivotRow k w (row_in w (row_at (rows_in rows) k.step.r)).numbers
   pub short : is_wide_at rows k.step.r ≡ false → IsShortPivot k
 
 -- as many rows, and room for as many more
@@ -73,35 +73,35 @@ pub record IsWrittenAt (w i : ℕ) (old new : Rows) : Type 0 where
 
 -- row r is the pivot row of column c, over a, and none of its numbers is above `most`
 pub record IsPlacedAt (w c r a most : ℕ) (old new : Rows) : Type 0 where
-  pub line : line_in w (row_at (rows_in new) r) ≡ pivot_line c a (cut (line_in w (row_at (rows_in old) r)))
-  pub denominator : a ≡ unsigned_abs (number_at (cut (line_in w (row_at (rows_in old) r))).numbers c)
-  pub size : line_size (line_in w (row_at (rows_in new) r)) ≤ most
+  pub line : row_in w (row_at (rows_in new) r) ≡ pivot_row_after c a (cut (row_in w (row_at (rows_in old) r)))
+  pub denominator : a ≡ unsigned_abs (number_at (cut (row_in w (row_at (rows_in old) r))).numbers c)
+  pub size : row_size (row_in w (row_at (rows_in new) r)) ≤ most
   pub short : is_wide_at new r ≡ false → most < 2 ^ 64
   pub written : IsWrittenAt w r old new
 
 -- the pivot's column is eliminated from row i
-pub record IsRowEliminated (k : Known) (w i : ℕ) (old new : Rows) : Type 0 where
-  pub eliminated : IsEliminatedBy k (line_in w (row_at (rows_in old) k.step.r)).numbers (line_in w (row_at (rows_in old) i)) (line_in w (row_at (rows_in new) i))
+pub record IsRowEliminated (k : PivotRow) (w i : ℕ) (old new : Rows) : Type 0 where
+  pub eliminated : IsEliminatedBy k (row_in w (row_at (rows_in old) k.step.r)).numbers (row_in w (row_at (rows_in old) i)) (row_in w (row_at (rows_in new) i))
   pub written : IsWrittenAt w i old new
 
 -- and from each row but the pivot row, which stays
-pub record AreRowsEliminated (k : Known) (w : ℕ) (old new : Rows) : Type 0 where
-  pub rows : AreEliminated k.step.limit w k.step.c k.step.r k.a k.most (line_in w (row_at (rows_in old) k.step.r)).numbers (rows_in old) (rows_in new)
+pub record AreRowsEliminated (k : PivotRow) (w : ℕ) (old new : Rows) : Type 0 where
+  pub rows : AreEliminated k.step.limit w k.step.c k.step.r k.a k.most (row_in w (row_at (rows_in old) k.step.r)).numbers (rows_in old) (rows_in new)
   pub pivot : row_at (rows_in new) k.step.r ≡ row_at (rows_in old) k.step.r
   pub stored : AreStored k.step.limit w new
 
 -- ---- a pivot of the rows and the objective row
 pub record AreKept (limit w : ℕ) (r : Rows) (o : Objective) : Type 0 where
   pub rows : AreStored limit w r
-  pub objective : IsKept limit w o.size (line_in w o.numbers.items)
+  pub objective : IsKept limit w o.size (row_in w o.numbers.items)
 
 -- the column enters in row r, its rows that are not 0 are listed, and all are within the limit
-pub record IsStep (s : Step) (w : ℕ) (r : Rows) (o : Objective) : Type 0 where
+pub record IsStep (s : PivotPlace) (w : ℕ) (r : Rows) (o : Objective) : Type 0 where
   pub limit : (widest ≤ s.limit) × (s.limit ≤ 2 ^ 127 - 1)
   pub pivot : IsPivot w s.c s.r (rows_in r)
   pub places : s.column_places.now ≡ nonzero_in (column_in s.c (rows_in r))
   pub kept : AreKept s.limit w r o
 
-abbrev pub IsStepMade : Step → ℕ → Rows → Objective → Rows → Objective → Type 0
+abbrev pub IsStepMade : PivotPlace → ℕ → Rows → Objective → Rows → Objective → Type 0
 IsStepMade s w rows objective new last =
-    IsPivoted s.limit w s.c s.r (cut (line_in w (row_at (rows_in rows) s.r))) (rows_in rows) objective.numbers.items (rows_in new) last.numbers.items
+    IsPivoted s.limit w s.c s.r (cut (row_in w (row_at (rows_in rows) s.r))) (rows_in rows) objective.numbers.items (rows_in new) last.numbers.items

@@ -1,30 +1,30 @@
 -- What the table of the code stands for.
 use Rattle.std.specs.Prelude.{◌≡◌, ℕ, ◌+◌, ◌≤◌, List, [], ◌∷◌, ◌++◌, ℤ, pos, neg_ℤ, length, take, if◌then◌else◌, nat_eq, true, Some, None}
 use Rattle.exact_num.specs.Fraction.{Fraction, whole, reduced}
-use Rattle.run_equivalence.specs.Lines.{IsLine, number_at, taken_in, widest, LineTable}
+use Rattle.run_equivalence.specs.IntegerRows.{IsIntegerRow, number_at, taken_in, widest, IntegerTable}
 use Rattle.run_equivalence.specs.WholeRunning.{whole_where_basic}
 use Rattle.simplex_run.specs.Choice.{Column}
-use Rattle.run_equivalence.specs.WholeTurning.{whole_turn, turn_fits}
+use Rattle.run_equivalence.specs.WholePivoting.{whole_pivot, pivot_fits}
 use Rattle.integer_tableau.specs.declared.table.WholeTable.{WholeTable}
-use Rattle.integer_tableau.specs.declared.turn.Turn.{Turn}
-use Rattle.integer_tableau.specs.declared.turn.Turn.TheVariants.{Moved, Unlimited, GivenUp}
-use Rattle.integer_tableau.specs.Rows.{line_in, lines_in, beside_basics, column_in, nonzero_in}
+use Rattle.integer_tableau.specs.declared.pivot_end.PivotEnd.{PivotEnd}
+use Rattle.integer_tableau.specs.declared.pivot_end.PivotEnd.TheVariants.{Moved, Unlimited, GivenUp}
+use Rattle.integer_tableau.specs.Rows.{row_in, integer_rows_in, beside_basics, column_in, nonzero_in}
 use Rattle.integer_tableau.specs.Stored.{AreKept, rows_in}
 
--- as many numbers a line as there are columns, and the right side
+-- as many numbers a row as there are columns, and the right side
 abbrev pub width_of : WholeTable → ℕ
 width_of t = length t.labels.items + 1
 
-abbrev pub table_of : List ℕ → List ℕ → List (List ℤ) → List ℤ → LineTable
+abbrev pub table_of : List ℕ → List ℕ → List (List ℤ) → List ℤ → IntegerTable
 table_of labels basics rows objective =
     record {
       columns = length labels + length basics;
       labels = labels;
-      rows = beside_basics basics (lines_in (length labels + 1) rows);
-      objective = line_in (length labels + 1) objective;
+      rows = beside_basics basics (integer_rows_in (length labels + 1) rows);
+      objective = row_in (length labels + 1) objective;
     }
 
-abbrev pub as_whole : WholeTable → LineTable
+abbrev pub as_whole : WholeTable → IntegerTable
 as_whole t = table_of t.labels.items t.basics.items (rows_in t.rows) t.objective.numbers.items
 
 -- each row and the objective row are within the limit, and each is at most the size that is kept
@@ -50,23 +50,23 @@ pub record IsListed (c count : ℕ) (t : WholeTable) : Type 0 where
   pub places : take count t.column_places.items ≡ nonzero_in (column_in c (rows_in t.rows))
   pub inside : count ≤ length t.column_places.items
 
--- ---- a turn: the table after it, where it is not given up
-abbrev pub IsTurn : ℕ → ℕ → Turn → WholeTable → WholeTable → Type 0
-IsTurn limit c Moved old new =
-    (whole_turn c (as_whole old) ≡ Some (as_whole new)) × (turn_fits limit c (as_whole old) ≡ true) × IsWithin limit new
-IsTurn limit c Unlimited old new = (whole_turn c (as_whole old) ≡ None) × (as_whole new ≡ as_whole old) × IsWithin limit new
-IsTurn limit c GivenUp old new = Unit {0}
+-- ---- a pivot: the table after it, where it is not given up
+abbrev pub IsPivotEnd : ℕ → ℕ → PivotEnd → WholeTable → WholeTable → Type 0
+IsPivotEnd limit c Moved old new =
+    (whole_pivot c (as_whole old) ≡ Some (as_whole new)) × (pivot_fits limit c (as_whole old) ≡ true) × IsWithin limit new
+IsPivotEnd limit c Unlimited old new = (whole_pivot c (as_whole old) ≡ None) × (as_whole new ≡ as_whole old) × IsWithin limit new
+IsPivotEnd limit c GivenUp old new = Unit {0}
 
 -- ---- the table with one row more
 pub record HasRow (entries : List Fraction) (basic : ℕ) (old new : WholeTable) : Type 0 where
   pub basics : new.basics.items ≡ old.basics.items ++ basic ∷ []
   pub row : List ℤ
   pub rows : rows_in new.rows ≡ rows_in old.rows ++ row ∷ []
-  pub line : line_in (width_of old) row ≡ taken_in entries
-  pub within : IsLine widest (width_of old) (line_in (width_of old) row)
+  pub line : row_in (width_of old) row ≡ taken_in entries
+  pub within : IsIntegerRow widest (width_of old) (row_in (width_of old) row)
 
 -- what a step of 1 in the column changes in variable j
-abbrev pub direction_entry : Column → LineTable → ℕ → Fraction
+abbrev pub direction_entry : Column → IntegerTable → ℕ → Fraction
 direction_entry c t j =
     if nat_eq j c.label then whole (pos 1)
     else whole_where_basic (λ row. reduced (neg_ℤ (number_at row.line.numbers c.place)) row.line.denominator) j t.rows

@@ -1,7 +1,7 @@
 //! The column that enters.
 ghost use Rattle.std.specs.Prelude.{◌≡◌, ◌<◌, ◌≤◌, IfSome, length};
 ghost use Rattle.std.specs.Option.{option_map};
-ghost use Rattle.run_equivalence.specs.WholeTurning.{least_column as least_column_of};
+ghost use Rattle.run_equivalence.specs.WholePivoting.{least_column as least_column_of};
 ghost use Rattle.fraction_tableau.specs.Labels.{as_column};
 
 use fraction_tableau::{Entering, with_column};

@@ -1,8 +1,8 @@
 //! What numbers have in common, and quotients.
 ghost use Rattle.std.specs.Prelude.{◌≡◌, IfSome, ◌≤◌, ◌<◌, ◌^◌, ◌*◌, ◌/◌, pos, unsigned_abs, length, map, int_div, slice_set};
 ghost use Rattle.arithmetic.specs.Gcd.{gcd as gcd_of};
-ghost use Rattle.run_equivalence.specs.Lines.{number_at, widest};
-ghost use Rattle.run_equivalence.specs.WholeTurning.{common_of};
+ghost use Rattle.run_equivalence.specs.IntegerRows.{number_at, widest};
+ghost use Rattle.run_equivalence.specs.WholePivoting.{common_of};
 
 use exact_num::gcd;
 
@@ -215,7 +215,7 @@ fn size_quotient(size: u128, divisor: u128) -> u128
     }
 }
 
-/// The quotient. Mostly a line has nothing in common, and then nothing is divided.
+/// The quotient. Mostly a row has nothing in common, and then nothing is divided.
 pub fn wide_quotient(number: i128, divisor: u128) -> i128
     requires above { 0 < divisor }
     requires below { divisor < 2 ^ 127 }

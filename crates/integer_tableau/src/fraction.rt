@@ -2,8 +2,8 @@
 ghost use Rattle.std.specs.Prelude.{◌≡◌, ◌<◌, ◌≤◌, IfSome, length, map, true, unsigned_abs};
 ghost use Rattle.exact_num.specs.CommonDenominator.{amount_over, signed_amounts_over};
 ghost use Rattle.exact_num.specs.Fraction.{reduced, whole as whole_of};
-ghost use Rattle.run_equivalence.specs.Lines.{AreSizes, IsLine, least_multiple as least_multiple_of, multiple as multiple_of, taken_in, widest};
-ghost use Rattle.integer_tableau.specs.Rows.{line_in};
+ghost use Rattle.run_equivalence.specs.IntegerRows.{AreSizes, IsIntegerRow, least_multiple as least_multiple_of, multiple as multiple_of, taken_in, widest};
+ghost use Rattle.integer_tableau.specs.Rows.{row_in};
 ghost use Rattle.integer_tableau.specs.Within.{HasMultiple};
 
 use crate::word::{WIDEST, within};
@@ -107,13 +107,13 @@ fn write_amounts<N: Exact>(numbers: &mut [i64], entries: &[N], denominator: u64)
     true
 }
 
-/// Writes the line of the fractions to the front of a row, and says whether 64 bits hold it.
-pub fn take_line<N: Exact>(row: &mut [i64], entries: &[N]) -> bool
+/// Writes the row of the fractions to the front of a row, and says whether 64 bits hold it.
+pub fn take_numbers<N: Exact>(row: &mut [i64], entries: &[N]) -> bool
     requires width { length entries.now < length row.old }
     ensures line { result ≡ true
-        → line_in (length entries.now) row.new ≡ taken_in (map N.fraction entries.now) }
+        → row_in (length entries.now) row.new ≡ taken_in (map N.fraction entries.now) }
     ensures within { result ≡ true
-        → IsLine widest (length entries.now) (line_in (length entries.now) row.new) }
+        → IsIntegerRow widest (length entries.now) (row_in (length entries.now) row.new) }
 {
     let Some(denominator) = least_multiple(entries) else {
         return false;

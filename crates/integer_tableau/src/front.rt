@@ -1,23 +1,23 @@
-//! The line at the front of a row: the denominator, and then so many numbers, the right side last.
+//! The row at the front of a row: the denominator, and then so many numbers, the right side last.
 ghost use Rattle.std.specs.Prelude.{◌≡◌, ◌+◌, ◌-◌, ◌*◌, ◌^◌, ◌<◌, ◌≤◌, length, map, pos, true, unsigned_abs, slice_set, take};
 ghost use Rattle.std.specs.Int.{int_signum};
-ghost use Rattle.run_equivalence.specs.Lines.{IsLine, line_of, line_size, number_at, numbers_fit, widest};
-ghost use Rattle.run_equivalence.specs.WholeTurning.{cut};
+ghost use Rattle.run_equivalence.specs.IntegerRows.{IsIntegerRow, integer_row, row_size, number_at, numbers_fit, widest};
+ghost use Rattle.run_equivalence.specs.WholePivoting.{cut};
 ghost use Rattle.integer_tableau.specs.Eliminating.{IsEliminatedBy, IsFrontLeft, IsKept, IsPivotRow, IsShortPivot};
-ghost use Rattle.integer_tableau.specs.Rows.{line_in, nonzero_in};
+ghost use Rattle.integer_tableau.specs.Rows.{row_in, nonzero_in};
 
 use crate::divisor::{common_short, divide_numbers};
-use crate::line::{eliminate_line, list_nonzero};
-use crate::mix::{Known, Pivot};
+use crate::mix::{Pivot, PivotRow};
 use crate::outcome::Eliminated;
-use crate::wide::{divide_common, eliminate_wide_line, narrow, widen, write_signs};
+use crate::short_row::{eliminate_short, list_nonzero};
+use crate::wide::{divide_common, eliminate_wide, narrow, widen, write_signs};
 use crate::word::{Widen, Word};
 
-/// Brings the line of so many numbers at the front of the row to lowest terms.
+/// Brings the row of so many numbers at the front of the row to lowest terms.
 pub fn cut_front(row: &mut [i64], width: usize)
     requires width { width < length row.old }
-    requires line { IsLine widest width (line_in width row.old) }
-    ensures { line_in width row.new ≡ cut (line_in width row.old) }
+    requires line { IsIntegerRow widest width (row_in width row.old) }
+    ensures { row_in width row.new ≡ cut (row_in width row.old) }
 {
     let denominator = row[0].unsigned_abs();
     let numbers = &mut row[1..width + 1];
@@ -32,8 +32,8 @@ pub fn cut_front(row: &mut [i64], width: usize)
 /// The same of a row of 128 bits.
 pub fn cut_wide_front(row: &mut [i128], width: usize)
     requires width { width < length row.old }
-    requires line { IsLine (2 ^ 127 - 1) width (line_in width row.old) }
-    ensures { line_in width row.new ≡ cut (line_in width row.old) }
+    requires line { IsIntegerRow (2 ^ 127 - 1) width (row_in width row.old) }
+    ensures { row_in width row.new ≡ cut (row_in width row.old) }
 {
     let denominator = row[0].unsigned_abs();
     let below = divide_common(denominator, &mut row[1..width + 1]);
@@ -53,11 +53,11 @@ pub fn exchange_denominator<W: Word>(row: &mut [W], c: usize)
     row[c + 1] = below;
 }
 
-/// Writes a line to the front of a row.
+/// Writes a row to the front of a row.
 pub fn write_front(row: &mut [i128], denominator: u128, numbers: &[i128])
     requires width { length numbers.now < length row.old }
     requires denominator { denominator ≤ 2 ^ 127 - 1 }
-    ensures { line_in (length numbers.now) row.new ≡ line_of denominator numbers.now }
+    ensures { row_in (length numbers.now) row.new ≡ integer_row denominator numbers.now }
 {
     row[0] = denominator as i128;
     row[1..numbers.len() + 1].copy_from_slice(numbers);
@@ -67,7 +67,7 @@ pub fn write_front(row: &mut [i128], denominator: u128, numbers: &[i128])
 /// `width` numbers.
 pub fn narrow_front(row: &mut [i64], wide: &[i128], width: usize)
     requires widths { (width < length row.old) × (width < length wide.now) }
-    requires line { IsLine widest width (line_in width wide.now) }
+    requires line { IsIntegerRow widest width (row_in width wide.now) }
     ensures { take (width + 1) row.new ≡ take (width + 1) wide.now }
 {
     narrow(&mut row[..width + 1], &wide[..width + 1]);
@@ -94,29 +94,29 @@ pub fn write_front_signs(row: &mut [i64], wide: &[i128], width: usize)
 pub fn front_nonzero(row: &[i64], width: usize, places: &mut [usize]) -> usize
     requires width { width < length row.now }
     requires room { width ≤ length places.old }
-    ensures places { take result places.new ≡ nonzero_in (line_in width row.now).numbers }
+    ensures places { take result places.new ≡ nonzero_in (row_in width row.now).numbers }
     ensures count { result ≤ length places.new }
 {
     list_nonzero(&row[1..width + 1], places)
 }
 
-/// Eliminates the pivot's column from the line at the front of the row, where the sizes of both rows say
-/// that each step is within the limit. The line is at most `size`, which is kept so where it stays
-/// short. `room` has as many places as the line has numbers.
+/// Eliminates the pivot's column from the row at the front of the row, where the sizes of both rows say
+/// that each step is within the limit. The row is at most `size`, which is kept so where it stays
+/// short. `room` has as many places as the row has numbers.
 pub fn eliminate_front(
     row: &mut [i64],
     size: &mut u64,
     pivot: &[i64],
-    known: Known,
+    known: PivotRow,
     room: &mut [i128],
 ) -> Eliminated
     requires widths { (length room.old < length row.old) × (length room.old < length pivot.now) }
     requires pivot { IsPivotRow known (length room.old)
-        (line_in (length room.old) pivot.now).numbers }
+        (row_in (length room.old) pivot.now).numbers }
     requires short { IsShortPivot known }
-    requires line { IsKept widest (length room.old) size.old (line_in (length room.old) row.old) }
+    requires line { IsKept widest (length room.old) size.old (row_in (length room.old) row.old) }
     ensures { IsFrontLeft result known.entry (length room.old)
-        (line_in (length room.old) pivot.now).numbers (line_in (length room.old) row.old)
+        (row_in (length room.old) pivot.now).numbers (row_in (length room.old) row.old)
         row.new size.new room.new }
 {
     let width = room.len();
@@ -126,7 +126,7 @@ pub fn eliminate_front(
         numbers: &pivot[1..width + 1],
         known,
     };
-    match eliminate_line(denominator, numbers, size, pivot, room) {
+    match eliminate_short(denominator, numbers, size, pivot, room) {
         Eliminated::Short { denominator } => {
             row[0] = denominator as i64;
             Eliminated::Short { denominator }
@@ -142,16 +142,16 @@ pub fn eliminate_wide_front<P: Widen<i128>>(
     row: &mut [i128],
     size: &mut u128,
     pivot: &[P],
-    known: Known,
+    known: PivotRow,
     width: usize,
 ) -> bool
     requires widths { (width < length row.old) × (width < length pivot.now) }
-    requires pivot { IsPivotRow known width (line_in width (map P.value pivot.now)).numbers }
-    requires line { IsKept known.step.limit width size.old (line_in width row.old) }
+    requires pivot { IsPivotRow known width (row_in width (map P.value pivot.now)).numbers }
+    requires line { IsKept known.step.limit width size.old (row_in width row.old) }
     ensures eliminated { result ≡ true → IsEliminatedBy known.entry
-        (line_in width (map P.value pivot.now)).numbers
-        (line_in width row.old) (line_in width row.new) }
-    ensures size { result ≡ true → line_size (line_in width row.new) ≤ size.new }
+        (row_in width (map P.value pivot.now)).numbers
+        (row_in width row.old) (row_in width row.new) }
+    ensures size { result ≡ true → row_size (row_in width row.new) ≤ size.new }
 {
     let denominator = row[0].unsigned_abs();
     let numbers = &mut row[1..width + 1];
@@ -159,7 +159,7 @@ pub fn eliminate_wide_front<P: Widen<i128>>(
         numbers: &pivot[1..width + 1],
         known,
     };
-    let Some(below) = eliminate_wide_line(denominator, numbers, size, pivot) else {
+    let Some(below) = eliminate_wide(denominator, numbers, size, pivot) else {
         return false;
     };
     row[0] = below as i128;

@@ -1,28 +1,28 @@
-//! One kernel for lines and pivot rows of any word: a line times a number, less a multiple of the
+//! One kernel for rows and pivot rows of any word: a row times a number, less a multiple of the
 //! pivot row.
 ghost use Rattle.std.specs.Prelude.{◌≡◌, ℕ, ◌<◌, ◌≤◌, ◌≤ℤ◌, ◌+◌, ◌*◌, ◌-ℤ◌, ◌*ℤ◌, pos, unsigned_abs, length, map, slice_set};
-ghost use Rattle.run_equivalence.specs.Lines.{number_at};
-ghost use Rattle.run_equivalence.specs.WholeTurning.{cross_difference};
+ghost use Rattle.run_equivalence.specs.IntegerRows.{number_at};
+ghost use Rattle.run_equivalence.specs.WholePivoting.{cross_difference};
 ghost use Rattle.integer_tableau.specs.Rows.{nonzero_in};
 ghost use Rattle.integer_tableau.specs.Within.{HasRoom};
 
 use crate::word::{Widen, Word};
 
-/// A turn to be made: the row r that leaves, the column `c` that enters with the places where it is
+/// A pivot to be made: the row r that leaves, the column `c` that enters with the places where it is
 /// not 0, and the limit of each step.
 #[derive(Clone, Copy)]
-pub struct Step<'a> {
+pub struct PivotPlace<'a> {
     pub r: usize,
     pub c: usize,
     pub column_places: &'a [usize],
     pub limit: u128,
 }
 
-/// What is known of the pivot row of a turn: the number `a` that was in the column that enters, a
+/// What is known of the pivot row of a pivot: the number `a` that was in the column that enters, a
 /// size that none of the row's numbers is above, and the places where they are not 0.
 #[derive(Clone, Copy)]
-pub struct Known<'a> {
-    pub step: Step<'a>,
+pub struct PivotRow<'a> {
+    pub step: PivotPlace<'a>,
     pub a: u128,
     pub most: u128,
     pub places: &'a [usize],
@@ -32,10 +32,10 @@ pub struct Known<'a> {
 #[derive(Clone, Copy)]
 pub struct Pivot<'a, P> {
     pub numbers: &'a [P],
-    pub known: Known<'a>,
+    pub known: PivotRow<'a>,
 }
 
-/// What a line is multiplied by, and how many times the pivot row is taken from it.
+/// What a row is multiplied by, and how many times the pivot row is taken from it.
 #[derive(Clone, Copy)]
 pub struct Factors<W: Word> {
     pub p: W,
@@ -57,7 +57,7 @@ fn multiply<W: Word>(numbers: &mut [W], p: W)
     }
 }
 
-/// Takes `f` times the number of the pivot row from that of the line, both at place j.
+/// Takes `f` times the number of the pivot row from that of the row, both at place j.
 fn subtract_at<W: Word, P: Widen<W>>(numbers: &mut [W], pivot: &[P], f: W, j: usize)
     requires inside { (j < length numbers.old) × (j < length pivot.now) }
     requires room { unsigned_abs (number_at (map W.value numbers.old) j)

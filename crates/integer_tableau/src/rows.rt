@@ -1,21 +1,21 @@
 //! The rows of a table, each in 64 bits where these hold it and else in 128.
 ghost use Rattle.std.specs.Prelude.{◌≡◌, ◌≢◌, ◌+◌, ◌-◌, ◌^◌, ◌<◌, ◌≤◌, ℕ, IfOk, [], ◌∷◌, ◌++◌, false, length, pos, take, true, unsigned_abs, slice_set, vec_len};
 ghost use Rattle.fraction_tableau.specs.Candidates.{best_with};
-ghost use Rattle.run_equivalence.specs.Lines.{IsLine, line_of, line_size, number_at, widest};
-ghost use Rattle.run_equivalence.specs.WholeTurning.{cut, whole_ratios};
+ghost use Rattle.run_equivalence.specs.IntegerRows.{IsIntegerRow, integer_row, row_size, number_at, widest};
+ghost use Rattle.run_equivalence.specs.WholePivoting.{cut, whole_ratios};
 ghost use Rattle.integer_tableau.specs.Choices.{entry_of, right_side_of};
 ghost use Rattle.integer_tableau.specs.Eliminating.{IsEliminatedBy, IsKept};
-ghost use Rattle.integer_tableau.specs.Rows.{IsPivot, beside_basics, column_in, line_in, lines_in, nonzero_in, pivot_line, row_at};
+ghost use Rattle.integer_tableau.specs.Rows.{IsPivot, beside_basics, column_in, row_in, integer_rows_in, nonzero_in, pivot_row_after, row_at};
 
 use crate::front::{
     cut_front, cut_wide_front, eliminate_front, eliminate_wide_front, exchange_denominator,
     front_nonzero, narrow_front, widen_front, write_front, write_front_signs,
 };
-use crate::line::{list_place, size_of};
-use crate::mix::{Known, Step};
+use crate::mix::{PivotPlace, PivotRow};
 use crate::objective::Objective;
 use crate::outcome::Eliminated;
 use crate::ratios::{Candidate, RowRatio, better};
+use crate::short_row::{list_place, size_of};
 use crate::wide::wide_size;
 use crate::word::WIDEST;
 use lists::RowArena;
@@ -25,7 +25,7 @@ use std::alloc::{AllocError, Global};
 /// bits, or of 128 where it is wide. All memory is taken when the rows are made.
 #[derive(Drop)]
 pub struct Rows {
-    // the short rows: of a wide row its signs, which the choices of a turn read first
+    // the short rows: of a wide row its signs, which the choices of a pivot read first
     short: RowArena<i64>,
     // room for each row to be wide. A row is made, of these zeros, when a short one first has its
     // place, so that room that is not used is not written
@@ -120,7 +120,7 @@ impl Rows {
         requires width { length row.now ≡ self.old.short.width }
         ensures rows { rows_in self.new ≡ rows_in self.old ++ row.now ∷ [] }
         ensures stored { (limit w : ℕ) → AreStored limit w self.old → widest ≤ limit
-            → IsLine widest w (line_in w row.now) → AreStored limit w self.new }
+            → IsIntegerRow widest w (row_in w row.now) → AreStored limit w self.new }
         ensures count { length self.new.short.rows ≡ length self.old.short.rows + 1 }
         ensures spare { self.new.short.spare + 1 ≡ self.old.short.spare }
         ensures same_width { self.new.short.width ≡ self.old.short.width }
@@ -203,7 +203,7 @@ impl Rows {
         requires stored { (limit : ℕ) × AreStored limit (columns + 1) self.now }
         requires places { places.now ≡ nonzero_in (column_in c (rows_in self.now)) }
         ensures { result ≡ best_with None (whole_ratios columns c 0
-            (beside_basics basics.now (lines_in (columns + 1) (rows_in self.now)))) }
+            (beside_basics basics.now (integer_rows_in (columns + 1) (rows_in self.now)))) }
     {
         let mut best: Option<Candidate> = None;
         for place in places {
@@ -229,12 +229,12 @@ impl Rows {
         requires row { i < length self.old.short.rows }
         requires width { width < self.old.short.width }
         requires wide { is_wide_at self.old i ≡ true }
-        requires line { IsLine widest width (line_in width (row_at self.old.wide.rows i)) }
-        requires size { line_size (line_in width (row_at self.old.wide.rows i))
+        requires line { IsIntegerRow widest width (row_in width (row_at self.old.wide.rows i)) }
+        requires size { row_size (row_in width (row_at self.old.wide.rows i))
             ≤ size_at self.old i }
         requires size_short { size_at self.old i < 2 ^ 64 }
-        ensures line { line_in width (row_at (rows_in self.new) i)
-            ≡ line_in width (row_at (rows_in self.old) i) }
+        ensures line { row_in width (row_at (rows_in self.new) i)
+            ≡ row_in width (row_at (rows_in self.old) i) }
         ensures written { IsWrittenAt width i self.old self.new }
     {
         narrow_front(self.short.row_mut(i), self.wide.row(i), width);
@@ -246,8 +246,8 @@ impl Rows {
         requires row { i < length self.old.short.rows }
         requires width { width < self.old.short.width }
         requires stored { IsStored width self.old i }
-        ensures line { line_in width (row_at (rows_in self.new) i)
-            ≡ line_in width (row_at (rows_in self.old) i) }
+        ensures line { row_in width (row_at (rows_in self.new) i)
+            ≡ row_in width (row_at (rows_in self.old) i) }
         ensures wide { is_wide_at self.new i ≡ true }
         ensures written { IsWrittenAt width i self.old self.new }
     {
@@ -263,7 +263,7 @@ impl Rows {
         requires row { i < length self.old.short.rows }
         requires width { width < self.old.short.width }
         requires wide { is_wide_at self.old i ≡ true }
-        requires size { line_size (line_in width (row_at self.old.wide.rows i))
+        requires size { row_size (row_in width (row_at self.old.wide.rows i))
             ≤ size_at self.old i }
         ensures rows { rows_in self.new ≡ rows_in self.old }
         ensures wide { is_wide_at self.new i ≡ is_wide_at self.old i }
@@ -278,12 +278,12 @@ impl Rows {
         requires row { i < length self.old.short.rows }
         requires width { width < self.old.short.width }
         requires wide { is_wide_at self.old i ≡ true }
-        requires line { (limit : ℕ) × IsLine limit width
-            (line_in width (row_at self.old.wide.rows i)) }
-        requires size { line_size (line_in width (row_at self.old.wide.rows i))
+        requires line { (limit : ℕ) × IsIntegerRow limit width
+            (row_in width (row_at self.old.wide.rows i)) }
+        requires size { row_size (row_in width (row_at self.old.wide.rows i))
             ≤ size_at self.old i }
-        ensures line { line_in width (row_at (rows_in self.new) i)
-            ≡ line_in width (row_at (rows_in self.old) i) }
+        ensures line { row_in width (row_at (rows_in self.new) i)
+            ≡ row_in width (row_at (rows_in self.old) i) }
         ensures written { IsWrittenAt width i self.old self.new }
     {
         if self.sizes[i] <= WIDEST {
@@ -297,10 +297,10 @@ impl Rows {
     fn cut_row(&mut self, r: usize, width: usize)
         requires row { r < length self.old.short.rows }
         requires width { width < self.old.short.width }
-        requires line { IsLine (2 ^ 127 - 1) width (line_in width (row_at (rows_in self.old) r)) }
+        requires line { IsIntegerRow (2 ^ 127 - 1) width (row_in width (row_at (rows_in self.old) r)) }
         requires stored { IsStored width self.old r }
-        ensures line { line_in width (row_at (rows_in self.new) r)
-            ≡ cut (line_in width (row_at (rows_in self.old) r)) }
+        ensures line { row_in width (row_at (rows_in self.new) r)
+            ≡ cut (row_in width (row_at (rows_in self.old) r)) }
         ensures written { IsWrittenAt width r self.old self.new }
     {
         if !self.is_wide[r] {
@@ -318,14 +318,14 @@ impl Rows {
     fn exchange_row(&mut self, r: usize, c: usize, width: usize) -> u128
         requires row { r < length self.old.short.rows }
         requires widths { (c < width) × (width < self.old.short.width) }
-        requires line { IsLine (2 ^ 127 - 1) width (line_in width (row_at (rows_in self.old) r)) }
+        requires line { IsIntegerRow (2 ^ 127 - 1) width (row_in width (row_at (rows_in self.old) r)) }
         requires above { 0 < unsigned_abs
-            (number_at (line_in width (row_at (rows_in self.old) r)).numbers c) }
+            (number_at (row_in width (row_at (rows_in self.old) r)).numbers c) }
         requires stored { IsStored width self.old r }
-        ensures pivot { line_in width (row_at (rows_in self.new) r)
-            ≡ pivot_line c result (line_in width (row_at (rows_in self.old) r)) }
+        ensures pivot { row_in width (row_at (rows_in self.new) r)
+            ≡ pivot_row_after c result (row_in width (row_at (rows_in self.old) r)) }
         ensures denominator { result ≡ unsigned_abs
-            (number_at (line_in width (row_at (rows_in self.old) r)).numbers c) }
+            (number_at (row_in width (row_at (rows_in self.old) r)).numbers c) }
         ensures written { IsWrittenAt width r self.old self.new }
     {
         if self.is_wide[r] {
@@ -343,7 +343,7 @@ impl Rows {
         requires row { i < length self.old.short.rows }
         requires width { width < self.old.short.width }
         requires stored { IsStored width self.old i }
-        ensures size { line_size (line_in width (row_at (rows_in self.old) i)) ≤ result }
+        ensures size { row_size (row_in width (row_at (rows_in self.old) i)) ≤ result }
         ensures short { is_wide_at self.old i ≡ false → result < 2 ^ 64 }
         ensures rows { rows_in self.new ≡ rows_in self.old }
         ensures wide { is_wide_at self.new i ≡ is_wide_at self.old i }
@@ -364,8 +364,8 @@ impl Rows {
         requires row { i < length self.old.short.rows }
         requires width { length numbers.now < self.old.short.width }
         requires denominator { denominator ≤ 2 ^ 127 - 1 }
-        ensures line { line_in (length numbers.now) (row_at (rows_in self.new) i)
-            ≡ line_of denominator numbers.now }
+        ensures line { row_in (length numbers.now) (row_at (rows_in self.new) i)
+            ≡ integer_row denominator numbers.now }
         ensures written { IsWrittenAt (length numbers.now) i self.old self.new }
     {
         write_front(self.wide.row_mut(i), denominator, numbers);
@@ -377,11 +377,11 @@ impl Rows {
 
     /// Eliminates the pivot's column from a short row by a short pivot row. Says whether each step is
     /// within the limit.
-    fn eliminate_short_row(&mut self, i: usize, known: Known, room: &mut [i128]) -> bool
+    fn eliminate_short_row(&mut self, i: usize, known: PivotRow, room: &mut [i128]) -> bool
         requires rows { (i < length self.old.short.rows) × (known.step.r ≢ i) }
         requires width { length room.old < self.old.short.width }
-        requires line { IsLine known.step.limit (length room.old)
-            (line_in (length room.old) (row_at (rows_in self.old) i)) }
+        requires line { IsIntegerRow known.step.limit (length room.old)
+            (row_in (length room.old) (row_at (rows_in self.old) i)) }
         requires stored { IsStored (length room.old) self.old i }
         requires pivot { IsKnown known (length room.old) self.old }
         requires short { (is_wide_at self.old i ≡ false)
@@ -402,18 +402,18 @@ impl Rows {
 
     /// Eliminates the pivot's column from a wide row by a pivot row of either width, up to its signs.
     /// Says whether each step is within the limit.
-    fn mix_wide_row(&mut self, i: usize, known: Known, width: usize) -> bool
+    fn mix_wide_row(&mut self, i: usize, known: PivotRow, width: usize) -> bool
         requires rows { (i < length self.old.short.rows) × (known.step.r ≢ i) }
         requires width { width < self.old.short.width }
         requires line { IsKept known.step.limit width (size_at self.old i)
-            (line_in width (row_at self.old.wide.rows i)) }
+            (row_in width (row_at self.old.wide.rows i)) }
         requires pivot { IsKnown known width self.old }
         requires wide { is_wide_at self.old i ≡ true }
         ensures eliminated { result ≡ true → IsEliminatedBy known.entry
-            (line_in width (row_at (rows_in self.old) known.entry.step.r)).numbers
-            (line_in width (row_at self.old.wide.rows i))
-            (line_in width (row_at self.new.wide.rows i)) }
-        ensures size { result ≡ true → line_size (line_in width (row_at self.new.wide.rows i))
+            (row_in width (row_at (rows_in self.old) known.entry.step.r)).numbers
+            (row_in width (row_at self.old.wide.rows i))
+            (row_in width (row_at self.new.wide.rows i)) }
+        ensures size { result ≡ true → row_size (row_in width (row_at self.new.wide.rows i))
             ≤ size_at self.new i }
         ensures wide { is_wide_at self.new i ≡ true }
         ensures changed { IsChangedAt i self.old self.new }
@@ -431,11 +431,11 @@ impl Rows {
     }
 
     /// Eliminates the pivot's column from a row in 128 bits. Says whether each step is within the limit.
-    fn eliminate_wide_row(&mut self, i: usize, known: Known, width: usize) -> bool
+    fn eliminate_wide_row(&mut self, i: usize, known: PivotRow, width: usize) -> bool
         requires rows { (i < length self.old.short.rows) × (known.step.r ≢ i) }
         requires width { width < self.old.short.width }
-        requires line { IsLine known.step.limit width
-            (line_in width (row_at (rows_in self.old) i)) }
+        requires line { IsIntegerRow known.step.limit width
+            (row_in width (row_at (rows_in self.old) i)) }
         requires stored { IsStored width self.old i }
         requires pivot { IsKnown known width self.old }
         ensures eliminated { result ≡ true
@@ -451,12 +451,12 @@ impl Rows {
     }
 
     /// Eliminates the pivot's column from a row: in 64 bits where neither row is wide. Says whether each
-    /// step is within the limit. `room` has as many places as a line has numbers.
-    fn eliminate_row(&mut self, i: usize, known: Known, room: &mut [i128]) -> bool
+    /// step is within the limit. `room` has as many places as a row has numbers.
+    fn eliminate_row(&mut self, i: usize, known: PivotRow, room: &mut [i128]) -> bool
         requires rows { (i < length self.old.short.rows) × (known.step.r ≢ i) }
         requires width { length room.old < self.old.short.width }
-        requires line { IsLine known.step.limit (length room.old)
-            (line_in (length room.old) (row_at (rows_in self.old) i)) }
+        requires line { IsIntegerRow known.step.limit (length room.old)
+            (row_in (length room.old) (row_at (rows_in self.old) i)) }
         requires stored { IsStored (length room.old) self.old i }
         requires pivot { IsKnown known (length room.old) self.old }
         ensures eliminated { result ≡ true
@@ -474,7 +474,7 @@ impl Rows {
     /// and says whether there is none. `column_places` are the rows that are not 0 in the column:
     /// the others stay.
     #[inline(never)]
-    fn eliminate_rows(&mut self, known: Known, room: &mut [i128]) -> bool
+    fn eliminate_rows(&mut self, known: PivotRow, room: &mut [i128]) -> bool
         requires width { length room.old < self.old.short.width }
         requires stored { AreStored known.step.limit (length room.old) self.old }
         requires pivot { IsKnown known (length room.old) self.old }
@@ -484,7 +484,7 @@ impl Rows {
             → AreRowsEliminated known.entry (length room.old) self.old self.new }
         ensures count { SameCounts self.old self.new }
     {
-        let Step {
+        let PivotPlace {
             r,
             column_places,
             ..
@@ -502,18 +502,18 @@ impl Rows {
 
     /// Eliminates the pivot's column from the objective row, and says whether each step is within the
     /// limit.
-    fn eliminate_objective(&self, objective: &mut Objective, known: Known, width: usize) -> bool
+    fn eliminate_objective(&self, objective: &mut Objective, known: PivotRow, width: usize) -> bool
         requires widths { (width < self.now.short.width)
             × (width < length objective.old.numbers.items) }
         requires line { IsKept known.step.limit width objective.old.size
-            (line_in width objective.old.numbers.items) }
+            (row_in width objective.old.numbers.items) }
         requires pivot { IsKnown known width self.now }
         ensures eliminated { result ≡ true → IsEliminatedBy known.entry
-            (line_in width (row_at (rows_in self.now) known.entry.step.r)).numbers
-            (line_in width objective.old.numbers.items)
-            (line_in width objective.new.numbers.items) }
+            (row_in width (row_at (rows_in self.now) known.entry.step.r)).numbers
+            (row_in width objective.old.numbers.items)
+            (row_in width objective.new.numbers.items) }
         ensures size { result ≡ true
-            → line_size (line_in width objective.new.numbers.items) ≤ objective.new.size }
+            → row_size (row_in width objective.new.numbers.items) ≤ objective.new.size }
         ensures places { length objective.new.numbers.items
             ≡ length objective.old.numbers.items }
     {
@@ -530,7 +530,7 @@ impl Rows {
     fn place_pivot(&mut self, r: usize, c: usize, width: usize) -> (u128, u128)
         requires width { width < self.old.short.width }
         requires pivot { IsPivot width c r (rows_in self.old) }
-        requires line { IsLine (2 ^ 127 - 1) width (line_in width (row_at (rows_in self.old) r)) }
+        requires line { IsIntegerRow (2 ^ 127 - 1) width (row_in width (row_at (rows_in self.old) r)) }
         requires stored { IsStored width self.old r }
         ensures { IsPlacedAt width c r result.0 result.1 self.old self.new }
     {
@@ -539,16 +539,16 @@ impl Rows {
         (a, self.size_anew(r, width))
     }
 
-    /// The rows of a turn and the objective row, of `width` numbers each. Says whether each step is
+    /// The rows of a pivot and the objective row, of `width` numbers each. Says whether each step is
     /// within the limit. `places` is room for the places where the pivot row is not 0, and `room`
-    /// for the numbers of a line in 128 bits before it is cut.
+    /// for the numbers of a row in 128 bits before it is cut.
     pub fn pivot(
         &mut self,
         objective: &mut Objective,
         places: &mut [usize],
         room: &mut [i128],
         width: usize,
-        step: Step,
+        step: PivotPlace,
     ) -> bool
         requires widths { (width < self.old.short.width)
             × (width < length objective.old.numbers.items) }
@@ -560,10 +560,10 @@ impl Rows {
         ensures shape { SameCounts self.old self.new × (length objective.new.numbers.items
             ≡ length objective.old.numbers.items) }
     {
-        let Step { r, c, .. } = step;
+        let PivotPlace { r, c, .. } = step;
         let (a, most) = self.place_pivot(r, c, width);
         let count = front_nonzero(self.short.row(r), width, places);
-        let known = Known {
+        let known = PivotRow {
             step,
             a,
             most,

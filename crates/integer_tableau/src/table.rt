@@ -4,19 +4,19 @@ ghost use Rattle.std.specs.Option.{option_map};
 ghost use Rattle.fraction_tableau.specs.Candidates.{best_with};
 ghost use Rattle.simplex_run.specs.Places.{numbers};
 ghost use Rattle.fraction_tableau.specs.declared.limits.TheConstants.{MAX_SIDE};
-ghost use Rattle.run_equivalence.specs.WholeTurning.{whole_entering, whole_pivoted, lines_steps_within, whole_ratios};
-ghost use Rattle.run_equivalence.specs.WholeRunning.{first_whole_table, whole_price, whole_where_basic};
-ghost use Rattle.run_equivalence.specs.Lines.{entry_of, taken_in, widest};
+ghost use Rattle.run_equivalence.specs.WholePivoting.{whole_entering, whole_pivoted, table_steps_within, whole_ratios};
+ghost use Rattle.run_equivalence.specs.WholeRunning.{first_whole_table, whole_reduced_cost, whole_where_basic};
+ghost use Rattle.run_equivalence.specs.IntegerRows.{entry_of, taken_in, widest};
 ghost use Rattle.integer_tableau.specs.Eliminating.{IsKept};
 ghost use Rattle.fraction_tableau.specs.Labels.{as_column};
-ghost use Rattle.integer_tableau.specs.Rows.{IsPivot, line_in, row_at};
+ghost use Rattle.integer_tableau.specs.Rows.{IsPivot, row_in, row_at};
 
 use crate::columns::least_column;
-use crate::fraction::{fraction, take_line};
-use crate::mix::Step;
+use crate::fraction::{fraction, take_numbers};
+use crate::mix::PivotPlace;
 use crate::objective::{Objective, Scratch};
+use crate::pivot_end::PivotEnd;
 use crate::rows::Rows;
-use crate::turn::Turn;
 use crate::wide::widen;
 use crate::word::WIDEST;
 use exact_num::Exact;
@@ -53,7 +53,7 @@ pub struct WholeTable {
 
 impl WholeTable {
     ghost use Rattle.fraction_tableau.specs.SparseRows.{program_in};
-    ghost use Rattle.integer_tableau.specs.Tables.{as_whole, direction_entry, width_of, room_of, HasRow, IsListed, IsTurn, IsWithin, SameRoom, SameShape};
+    ghost use Rattle.integer_tableau.specs.Tables.{as_whole, direction_entry, width_of, room_of, HasRow, IsListed, IsPivotEnd, IsWithin, SameRoom, SameShape};
     ghost use Rattle.integer_tableau.specs.Stored.{AreStored, rows_in};
 
     /// A table with room for as many rows of as many columns. It is that of no program yet.
@@ -113,15 +113,15 @@ impl WholeTable {
     /// Writes the objective row, and says whether 64 bits hold it.
     fn take_objective<N: Exact>(&mut self, entries: &[N]) -> bool
         requires width { length entries.now ≡ width_of self.old }
-        ensures line { result ≡ true → line_in (width_of self.old) self.new.objective.numbers.items
+        ensures line { result ≡ true → row_in (width_of self.old) self.new.objective.numbers.items
             ≡ taken_in (map N.fraction entries.now) }
         ensures kept { result ≡ true → IsKept widest (width_of self.old) self.new.objective.size
-            (line_in (width_of self.old) self.new.objective.numbers.items) }
+            (row_in (width_of self.old) self.new.objective.numbers.items) }
         ensures labels { self.new.labels.items ≡ self.old.labels.items }
         ensures basics { self.new.basics.items ≡ self.old.basics.items }
         ensures rows { self.new.rows ≡ self.old.rows }
     {
-        if !take_line(self.line.as_mut_slice(), entries) {
+        if !take_numbers(self.line.as_mut_slice(), entries) {
             return false;
         }
         widen(self.objective.numbers.as_mut_slice(), self.line.as_slice());
@@ -142,7 +142,7 @@ impl WholeTable {
         ensures objective { self.new.objective ≡ self.old.objective }
         ensures room { SameRoom self.old self.new }
     {
-        if !take_line(self.line.as_mut_slice(), entries) {
+        if !take_numbers(self.line.as_mut_slice(), entries) {
             return false;
         }
         push_within(&mut self.basics, basic);
@@ -151,7 +151,7 @@ impl WholeTable {
     }
 
     /// Becomes the first table of the program, each row over the least common denominator, and
-    /// says whether it has room and 64 bits hold it. `line` is room for a row that comes.
+    /// says whether it has room and 64 bits hold it. `row` is room for a row that comes.
     pub fn take_in<N: Exact>(&mut self, program: &SparseProgram<N>, line: &mut [N]) -> bool
         requires line { length line.old ≡ length program.now.costs.items + 1 }
         ensures table { result ≡ true
@@ -178,7 +178,7 @@ impl WholeTable {
 
     /// The column that enters: of those whose number in the objective row is below 0 that of the
     /// smallest variable.
-    #[tactic(auto, unfolding(run_equivalence::specs::WholeTurning::whole_entering))]
+    #[tactic(auto, unfolding(run_equivalence::specs::WholePivoting::whole_entering))]
     pub fn entering(&self) -> Option<Entering>
         ensures column { option_map as_column result ≡ whole_entering (as_whole self.now) }
         ensures inside { IfSome result (λ c. c.place < length self.now.labels.items) }
@@ -234,13 +234,13 @@ impl WholeTable {
 
     /// The variable of column `c` becomes basic in row r. Says whether each step is within the
     /// limit. `count` rows are listed: those that are not 0 in the column.
-    fn pivot(&mut self, c: usize, count: usize, r: usize, limit: u128) -> bool
+    fn pivot_at(&mut self, c: usize, count: usize, r: usize, limit: u128) -> bool
         requires column { c < length self.old.labels.items }
         requires listed { IsListed c count self.old }
         requires pivot { IsPivot (width_of self.old) c r (rows_in self.old.rows) }
         requires limit { (widest ≤ limit) × (limit ≤ 2 ^ 127 - 1) }
         requires within { IsWithin limit self.old }
-        ensures fits { result ≡ true → lines_steps_within limit c r
+        ensures fits { result ≡ true → table_steps_within limit c r
             (as_whole self.old).objective (as_whole self.old).rows ≡ true }
         ensures table { result ≡ true
             → as_whole self.new ≡ whole_pivoted c r (as_whole self.old) }
@@ -248,7 +248,7 @@ impl WholeTable {
         ensures shape { SameShape self.old self.new }
     {
         let width = self.labels.len() + 1;
-        let step = Step {
+        let step = PivotPlace {
             r,
             c,
             column_places: &self.column_places[..count],
@@ -267,22 +267,22 @@ impl WholeTable {
         fits
     }
 
-    /// One turn: column `c` enters. It is given up where a step may leave the limit.
-    pub fn turn(&mut self, c: usize, limit: u128) -> Turn
+    /// One pivot: column `c` enters. It is given up where a step may leave the limit.
+    pub fn pivot(&mut self, c: usize, limit: u128) -> PivotEnd
         requires column { c < length self.old.labels.items }
         requires limit { (widest ≤ limit) × (limit ≤ 2 ^ 127 - 1) }
         requires within { IsWithin limit self.old }
-        ensures turn { IsTurn limit c result self.old self.new }
+        ensures pivoted { IsPivotEnd limit c result self.old self.new }
         ensures shape { SameShape self.old self.new }
     {
         let count = self.list_column(c);
         match self.leaving(c, count) {
-            None => Turn::Unlimited,
+            None => PivotEnd::Unlimited,
             Some(r) => {
-                if self.pivot(c, count, r, limit) {
-                    Turn::Moved
+                if self.pivot_at(c, count, r, limit) {
+                    PivotEnd::Moved
                 } else {
-                    Turn::GivenUp
+                    PivotEnd::GivenUp
                 }
             }
         }
@@ -320,7 +320,7 @@ impl WholeTable {
         requires row { i < length self.now.rows.short.rows }
         requires place { k < width_of self.now }
         ensures { N.fraction result
-            ≡ entry_of (line_in (width_of self.now) (row_at (rows_in self.now.rows) i)) k }
+            ≡ entry_of (row_in (width_of self.now) (row_at (rows_in self.now.rows) i)) k }
     {
         let denominator = self.rows.number(i, 0).unsigned_abs();
         fraction(self.rows.number(i, k + 1), denominator)
@@ -350,10 +350,10 @@ impl WholeTable {
     }
 
     /// The objective entry of variable j: 0 where it is basic.
-    pub fn price_at<N: Exact>(&self, j: usize) -> N
+    pub fn reduced_cost<N: Exact>(&self, j: usize) -> N
         requires within { IsWithin (unsigned_abs N.LIMIT) self.now }
         requires variable { j < (as_whole self.now).columns }
-        ensures { N.fraction result ≡ whole_price (as_whole self.now) j }
+        ensures { N.fraction result ≡ whole_reduced_cost (as_whole self.now) j }
     {
         match self.column_of(j) {
             None => N::zero(),

@@ -1,14 +1,14 @@
-//! Lines of 128 bits: the objective row, and each row that 64 bits do not hold or whose steps they
+//! Rows of 128 bits: the objective row, and each row that 64 bits do not hold or whose steps they
 //! do not.
 ghost use Rattle.std.specs.Prelude.{◌≡◌, true, IfSome, ◌<◌, ◌≤◌, ◌+◌, ◌-◌, ◌*◌, ◌/◌, ◌^◌, pos, unsigned_abs, length, map, int_div};
 ghost use Rattle.std.specs.Int.{int_signum};
 ghost use Rattle.arithmetic.specs.Gcd.{gcd as gcd_of};
-ghost use Rattle.run_equivalence.specs.WholeTurning.{cut, cut_where_wide};
-ghost use Rattle.run_equivalence.specs.Lines.{AreSizes, IsLine, line_fits, line_of, line_size, number_at, numbers_fit, widest};
+ghost use Rattle.run_equivalence.specs.WholePivoting.{cut, cut_where_wide};
+ghost use Rattle.run_equivalence.specs.IntegerRows.{AreSizes, IsIntegerRow, row_fits, integer_row, row_size, number_at, numbers_fit, widest};
 ghost use Rattle.integer_tableau.specs.Eliminating.{IsEliminatedBy, IsKept, IsPivotRow};
 
 use crate::divisor::{common, common_of_wide, divisor_of, whole_quotient, wide_quotient};
-use crate::mix::{Factors, Known, Pivot, mix};
+use crate::mix::{Factors, Pivot, PivotRow, mix};
 use crate::word::{WIDEST, Widen};
 
 /// Writes the numbers.
@@ -88,7 +88,7 @@ fn wide_mixed_size(
     if size <= limit { Some(size) } else { None }
 }
 
-/// The size of the line when it is mixed, where it is within the limit: by the one that is kept, or
+/// The size of the row when it is mixed, where it is within the limit: by the one that is kept, or
 /// where that is too great by one that is made anew.
 #[inline(always)]
 fn wide_size_to_mix(
@@ -96,14 +96,14 @@ fn wide_size_to_mix(
     numbers: &[i128],
     kept: u128,
     factors: Factors<i128>,
-    known: Known,
+    known: PivotRow,
 ) -> Option<u128>
-    requires { line_size (line_of denominator numbers.now) ≤ kept }
-    ensures mixed { IfSome result (λ size. line_size (line_of denominator numbers.now)
+    requires { row_size (integer_row denominator numbers.now) ≤ kept }
+    ensures mixed { IfSome result (λ size. row_size (integer_row denominator numbers.now)
         * unsigned_abs factors.p + unsigned_abs factors.f * known.entry.most ≤ size) }
     ensures within { IfSome result (λ size. size ≤ known.entry.step.limit) }
 {
-    let Known { step, most, .. } = known;
+    let PivotRow { step, most, .. } = known;
     let (times, less) = (factors.p.unsigned_abs(), factors.f.unsigned_abs());
     match wide_mixed_size(kept, times, less, most, step.limit) {
         Some(size) => Some(size),
@@ -126,9 +126,9 @@ fn are_short(numbers: &[i128]) -> bool
     true
 }
 
-/// Whether 64 bits hold the line in either sign.
+/// Whether 64 bits hold the row in either sign.
 pub fn is_short(denominator: u128, numbers: &[i128]) -> bool
-    ensures { result ≡ line_fits widest (line_of denominator numbers.now) }
+    ensures { result ≡ row_fits widest (integer_row denominator numbers.now) }
 {
     denominator <= WIDEST && are_short(numbers)
 }
@@ -146,22 +146,22 @@ fn divide_wide(numbers: &mut [i128], divisor: u128)
     }
 }
 
-/// Divides the line by what it has in common, and answers its denominator.
+/// Divides the row by what it has in common, and answers its denominator.
 pub fn divide_common(denominator: u128, numbers: &mut [i128]) -> u128
     requires above { 0 < denominator }
     requires below { denominator < 2 ^ 127 }
-    ensures { line_of result numbers.new ≡ cut (line_of denominator numbers.old) }
+    ensures { integer_row result numbers.new ≡ cut (integer_row denominator numbers.old) }
 {
     let divisor = common(denominator, numbers);
     divide_wide(numbers, divisor);
     denominator / divisor
 }
 
-/// The same, where 64 bits do not hold the line. Any other stays as it is.
+/// The same, where 64 bits do not hold the row. Any other stays as it is.
 pub fn cut_where_not_short(denominator: u128, numbers: &mut [i128]) -> u128
     requires above { 0 < denominator }
     requires below { denominator < 2 ^ 127 }
-    ensures { line_of result numbers.new ≡ cut_where_wide (line_of denominator numbers.old) }
+    ensures { integer_row result numbers.new ≡ cut_where_wide (integer_row denominator numbers.old) }
 {
     if is_short(denominator, numbers) {
         denominator
@@ -170,14 +170,14 @@ pub fn cut_where_not_short(denominator: u128, numbers: &mut [i128]) -> u128
     }
 }
 
-/// The same, where the size that is kept does not say that 64 bits hold the line. The line is sized
+/// The same, where the size that is kept does not say that 64 bits hold the row. The row is sized
 /// anew then.
 fn cut_in_place(denominator: u128, numbers: &mut [i128], size: &mut u128) -> u128
     requires above { 0 < denominator }
     requires below { denominator < 2 ^ 127 }
-    requires size { line_size (line_of denominator numbers.old) ≤ size.old }
-    ensures line { line_of result numbers.new ≡ cut_where_wide (line_of denominator numbers.old) }
-    ensures size { line_size (line_of result numbers.new) ≤ size.new }
+    requires size { row_size (integer_row denominator numbers.old) ≤ size.old }
+    ensures line { integer_row result numbers.new ≡ cut_where_wide (integer_row denominator numbers.old) }
+    ensures size { row_size (integer_row result numbers.new) ≤ size.new }
 {
     if *size <= WIDEST {
         return denominator;
@@ -209,9 +209,9 @@ fn without_common_wide(a: u128, x: i128) -> Factors<i128>
     }
 }
 
-/// Eliminates the pivot's column from the line, where the sizes of both rows say that each step is within
-/// the limit, and answers the line's new denominator. The line is at most `size`, which is kept so.
-pub fn eliminate_wide_line<P: Widen<i128>>(
+/// Eliminates the pivot's column from the row, where the sizes of both rows say that each step is within
+/// the limit, and answers the row's new denominator. The row is at most `size`, which is kept so.
+pub fn eliminate_wide<P: Widen<i128>>(
     denominator: u128,
     numbers: &mut [i128],
     size: &mut u128,
@@ -220,13 +220,13 @@ pub fn eliminate_wide_line<P: Widen<i128>>(
     requires pivot { IsPivotRow pivot.known (length numbers.old)
         (map P.value pivot.numbers.now) }
     requires line { IsKept pivot.known.step.limit (length numbers.old) size.old
-        (line_of denominator numbers.old) }
+        (integer_row denominator numbers.old) }
     ensures eliminated { IfSome result (λ d. IsEliminatedBy pivot.entry.known
-        (map P.value pivot.entry.numbers.now) (line_of denominator numbers.old)
-        (line_of d numbers.new)) }
-    ensures size { IfSome result (λ d. line_size (line_of d numbers.new) ≤ size.new) }
+        (map P.value pivot.entry.numbers.now) (integer_row denominator numbers.old)
+        (integer_row d numbers.new)) }
+    ensures size { IfSome result (λ d. row_size (integer_row d numbers.new) ≤ size.new) }
 {
-    let Known { step, a, .. } = pivot.known;
+    let PivotRow { step, a, .. } = pivot.known;
     let x = numbers[step.c];
     if x == 0 {
         return Some(denominator);

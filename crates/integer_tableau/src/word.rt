@@ -1,7 +1,7 @@
-//! The words that the numbers of a line stand in.
+//! The words that the numbers of a row stand in.
 ghost use Rattle.std.specs.Prelude.{◌≡◌, IfSome, ℕ, ℤ, ◌≤◌, ◌+◌, ◌*◌, ◌^◌, ◌-◌, ◌-ℤ◌, ◌*ℤ◌, pos, true, unsigned_abs};
 ghost use Rattle.exact_num.specs.Fits.{size_fits};
-ghost use Rattle.run_equivalence.specs.Lines.{widest};
+ghost use Rattle.run_equivalence.specs.IntegerRows.{widest};
 ghost use Rattle.integer_tableau.specs.Within.{kept};
 
 /// What a signed number of 64 bits holds in either sign.

@@ -1,14 +1,13 @@
 //! The margin of positions of one market.
-ghost use Rattle.std.specs.Prelude.{◌≡◌, ◌≤◌, ◌+◌, IfOk, length, map};
+ghost use Rattle.std.specs.Prelude.{◌≡◌, ◌≤◌, ◌+◌, IfOk, length};
 ghost use Rattle.std.specs.List.{All};
-ghost use Rattle.exact_num.specs.Fraction.{IsNotBelowZero};
 ghost use Rattle.frac.specs.Range.{limit as largest};
 ghost use Rattle.frac.specs.Value.{fraction_of};
-ghost use Rattle.form.specs.Limits.{HasItsForms};
 ghost use Rattle.form.specs.Payoff.{IsOnCount};
 ghost use Rattle.form.specs.States.{vector_of};
 ghost use Rattle.form.specs.declared.limits.TheConstants.{MAX_ORDERS, MAX_UNDERLYINGS};
 ghost use Rattle.master_program.specs.Master.{zero_prices};
+ghost use Rattle.pricing_oracle.specs.Answers.{MayBeSearched};
 ghost use Rattle.settlement.specs.Positions.{IsHeldPosition};
 ghost use Rattle.portfolio_margin.specs.Answers.{IsEndOf, IsMarginOf, IsMarginWith, IsTrueOf, asked_in};
 ghost use Rattle.portfolio_margin.specs.Run.{asked_for, margin_run, turns_from};
@@ -42,10 +41,7 @@ fn turns(
     first: Wanted,
     budget: &mut Budget,
 ) -> Result<LeastMargin, Stop>
-    requires forms { HasItsForms batch.now }
-    requires few { length batch.now.orders ≤ MAX_ORDERS }
-    requires fills { length fills.now ≡ length batch.now.orders }
-    requires not_below_zero { All IsNotBelowZero (map fraction_of fills.now) }
+    requires { MayBeSearched fraction_of batch.now fills.now }
     ensures end { IsEndOf (turns_from (asked_in budget.old.limit batch.now fills.now)
         (budget.old.limit + 1) (fraction_of first.liability) (vector_of first.at)
         budget.old.spent) result budget.new.spent }
@@ -69,10 +65,7 @@ fn least(
     fills: &[Frac128],
     budget: &mut Budget,
 ) -> Result<LeastMargin, Stop>
-    requires forms { HasItsForms batch.now }
-    requires few { length batch.now.orders ≤ MAX_ORDERS }
-    requires fills { length fills.now ≡ length batch.now.orders }
-    requires not_below_zero { All IsNotBelowZero (map fraction_of fills.now) }
+    requires asked { MayBeSearched fraction_of batch.now fills.now }
     requires unspent { budget.old.spent ≡ 0 }
     ensures end { IsEndOf (margin_run (asked_in budget.old.limit batch.now fills.now))
         result budget.new.spent }

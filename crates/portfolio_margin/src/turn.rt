@@ -1,13 +1,11 @@
 //! One search of a margin's run, and what it leads to.
-ghost use Rattle.std.specs.Prelude.{◌≡◌, ◌≢◌, ◌≤◌, ◌+◌, ℕ, IfOk, length, map};
-ghost use Rattle.std.specs.List.{All};
+ghost use Rattle.std.specs.Prelude.{◌≡◌, ◌≢◌, ◌+◌, ℕ, IfOk, length};
 ghost use Rattle.exact_num.specs.Fits.{meaning};
-ghost use Rattle.exact_num.specs.Fraction.{IsNotBelowZero};
 ghost use Rattle.frac.specs.Value.{fraction_of};
 ghost use Rattle.form.specs.Limits.{HasItsForms};
 ghost use Rattle.form.specs.States.{vector_of};
 ghost use Rattle.form.specs.Vector.{scale_of};
-ghost use Rattle.form.specs.declared.limits.TheConstants.{MAX_ORDERS};
+ghost use Rattle.pricing_oracle.specs.Answers.{MayBeSearched};
 ghost use Rattle.portfolio_margin.specs.Answers.{IsOnForms, IsTurnOf, asked_in};
 ghost use Rattle.portfolio_margin.specs.Run.{at_state, turn_at, wanted_at};
 
@@ -81,10 +79,7 @@ pub(crate) fn take_turn(
     wanted: Wanted,
     budget: &mut Budget,
 ) -> Result<Turn, Stop>
-    requires forms { HasItsForms batch.now }
-    requires few { length batch.now.orders ≤ MAX_ORDERS }
-    requires fills { length fills.now ≡ length batch.now.orders }
-    requires not_below_zero { All IsNotBelowZero (map fraction_of fills.now) }
+    requires { MayBeSearched fraction_of batch.now fills.now }
     ensures turn { IsTurnOf (turn_at (asked_in budget.old.limit batch.now fills.now)
         (fraction_of wanted.liability) (vector_of wanted.at) budget.old.spent)
         result budget.new.spent }

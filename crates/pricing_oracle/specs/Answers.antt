@@ -1,10 +1,13 @@
 -- What the answers of the code say of the search.
-use Rattle.std.specs.Prelude.{ℕ, ◌≡◌, List, map, Option, Some, None, Result, Ok, Err}
-use Rattle.exact_num.specs.Fraction.{Fraction}
+use Rattle.std.specs.Prelude.{ℕ, ◌≡◌, ◌≤◌, List, length, map, Option, Some, None, Result, Ok, Err}
+use Rattle.std.specs.List.{All}
+use Rattle.exact_num.specs.Fraction.{Fraction, IsNotBelowZero}
 use Rattle.frac.specs.Range.{limit as largest}
 use Rattle.form.specs.declared.orders.Batch.{Batch}
 use Rattle.form.specs.declared.states.State.{State}
+use Rattle.form.specs.Limits.{HasItsForms}
 use Rattle.form.specs.States.{vector_of}
+use Rattle.form.specs.declared.limits.TheConstants.{MAX_ORDERS}
 use Rattle.clearing_model.specs.Certificate.{ClosesAsWritten}
 use Rattle.clearing_model.specs.Written.{WrittenTree, IsWritten}
 use Rattle.sign_tree.specs.declared.trees.SignTree.{SignTree}
@@ -22,6 +25,13 @@ use Rattle.pricing_oracle.specs.declared.found.Found.TheVariants.{Closed, Violat
 -- the tree of the code is the tree as it is written
 abbrev pub IsTreeAs : WrittenTree → SignTree → Type 0
 IsTreeAs written tree = IsWritten written (map node_of tree.nodes) (map placed_of tree.multipliers)
+
+-- a market on 1 to 8 underlyings with at most 256 orders on just these, and for each a fill that is not below 0
+pub record MayBeSearched {A : Type 0} (value : A → Fraction) (batch : Batch) (amounts : List A) : Type 0 where
+  pub forms : HasItsForms batch
+  pub few : length batch.orders ≤ MAX_ORDERS
+  pub fills : length amounts ≡ length batch.orders
+  pub not_below_zero : All IsNotBelowZero (map value amounts)
 
 -- what a batch, its fills and the liability ask of a search, in numbers within a limit and with a
 -- budget

@@ -1,11 +1,7 @@
 //! The search.
-ghost use Rattle.std.specs.Prelude.{◌≡◌, ◌≤◌, IfOk, length, map, unsigned_abs};
-ghost use Rattle.std.specs.List.{All};
-ghost use Rattle.exact_num.specs.Fraction.{IsNotBelowZero};
-ghost use Rattle.form.specs.Limits.{HasItsForms};
-ghost use Rattle.form.specs.declared.limits.TheConstants.{MAX_ORDERS};
+ghost use Rattle.std.specs.Prelude.{◌≡◌, IfOk, map, unsigned_abs};
 ghost use Rattle.master_program.specs.Search.{search as search_of};
-ghost use Rattle.pricing_oracle.specs.Answers.{IsSearchAnswer, IsTrueOf, found_in, question};
+ghost use Rattle.pricing_oracle.specs.Answers.{IsSearchAnswer, IsTrueOf, MayBeSearched, found_in, question};
 ghost use Rattle.pricing_oracle.specs.Sizes.{AreWithin, sizes_for};
 
 use crate::found::Found;
@@ -31,10 +27,7 @@ pub fn search_in<N: Exact>(
     budget: &mut Budget,
     room: &mut SearchRoom<N>,
 ) -> Result<Option<State>, RunStop>
-    requires forms { HasItsForms batch.now }
-    requires few { length batch.now.orders ≤ MAX_ORDERS }
-    requires fills { length fills.now ≡ length batch.now.orders }
-    requires not_below_zero { All IsNotBelowZero (map N.fraction fills.now) }
+    requires asked { MayBeSearched N.fraction batch.now fills.now }
     requires sizes { AreWithin (sizes_for batch.now budget.old.limit) room.old.sizes }
     ensures search { IsSearchAnswer (search_of
         (question (unsigned_abs N.LIMIT) budget.old.limit batch.now (map N.fraction fills.now)
@@ -64,10 +57,7 @@ fn found_by<N: Exact>(
     budget: &mut Budget,
     room: &mut SearchRoom<N>,
 ) -> Result<Found, Stop>
-    requires forms { HasItsForms batch.now }
-    requires few { length batch.now.orders ≤ MAX_ORDERS }
-    requires fills { length fills.now ≡ length batch.now.orders }
-    requires not_below_zero { All IsNotBelowZero (map N.fraction fills.now) }
+    requires asked { MayBeSearched N.fraction batch.now fills.now }
     requires sizes { AreWithin (sizes_for batch.now budget.old.limit) room.old.sizes }
     ensures search { IsSearchAnswer (search_of
         (question (unsigned_abs N.LIMIT) budget.old.limit batch.now (map N.fraction fills.now)
@@ -91,10 +81,7 @@ pub fn search<N: Exact>(
     liability: &N,
     budget: &mut Budget,
 ) -> Result<Found, Stop>
-    requires forms { HasItsForms batch.now }
-    requires few { length batch.now.orders ≤ MAX_ORDERS }
-    requires fills { length fills.now ≡ length batch.now.orders }
-    requires not_below_zero { All IsNotBelowZero (map N.fraction fills.now) }
+    requires { MayBeSearched N.fraction batch.now fills.now }
     ensures search { IsSearchAnswer (search_of
         (question (unsigned_abs N.LIMIT) budget.old.limit batch.now (map N.fraction fills.now)
         (N.fraction liability.now)) budget.old.spent) result budget.new.spent }

@@ -37,7 +37,7 @@ use Rattle.proposal_text.specs.declared.replies.RunStop.{RunStop}
 use Rattle.proposals.specs.Best.{surplus_of}
 use Rattle.proposals.specs.Laws.{IsProvedBest, as_proposal}
 use Rattle.proposals.specs.declared.best.Best.{Best}
-use Rattle.constraint_generation.specs.Run.{Solution}
+use Rattle.constraint_generation.specs.Run.{CoveredReading}
 use Rattle.simplex_run.specs.Ending.{Ending, done, no_unit_left, unbounded, wide_at}
 use Rattle.proposal_lines.specs.Clears.{better_in, reference_in}
 use Rattle.proposal_lines.specs.KeptByMarket.{KeptProposals, best_in, bounded_as, bounded_by, bounded_in, matched_by, stop_of}
@@ -130,12 +130,12 @@ bounded_proves batch outcome stop kept judged stopped proved =
 abbrev IsMatchedIfStopped : List Order → Outcome → Type 0
 IsMatchedIfStopped orders outcome = (run : RunStop) → stop_of outcome.mark ≡ Some run → outcome ≡ fallback orders outcome.mark outcome.units
 
-by_values : (orders : List Order) (units spent : ℕ) (s : Solution) (has : Bool) → IsMatchedIfStopped orders (if has then optimal_outcome s spent else fallback orders Budget units)
+by_values : (orders : List Order) (units spent : ℕ) (s : CoveredReading) (has : Bool) → IsMatchedIfStopped orders (if has then optimal_outcome s spent else fallback orders Budget units)
 unfolding optimal_outcome fallback
 by_values orders units spent (r, cover) true run is = absurd (cc)
 by_values orders units spent s false run is = refl
 
-matched_at : (orders : List Order) (units : ℕ) (end : Ending Solution) → IsMatchedIfStopped orders (outcome_at orders units end)
+matched_at : (orders : List Order) (units : ℕ) (end : Ending CoveredReading) → IsMatchedIfStopped orders (outcome_at orders units end)
 unfolding fallback
 matched_at orders units (done s spent) run is = by_values orders units spent s (has_values s) run is
 matched_at orders units (wide_at spent wide) run is = refl

@@ -34,10 +34,10 @@ use Rattle.proposals.specs.declared.best.Best.{Best}
 use Rattle.lists.specs.Refusals.{first_of}
 use Rattle.proposal_lines.specs.Clears.{better_in, clear_reply, cleared_by, reference_in}
 use Rattle.proposal_lines.specs.KeptByMarket.{KeptProposals, after_end, best_in, kept_in, stop_of, with_kept, without_kept}
-use Rattle.proposal_lines.specs.LaterClears.{IsNoClearOf, IsUnharmed, LeaveOrders, ProposalsLowerNothing}
+use Rattle.proposal_lines.specs.LaterClears.{IsNoClearOf, IsUnharmed, LeaveOrders, LowersNothing, ProposalsLowerNothing}
 use Rattle.proposal_lines.specs.Laws.{cleared_surplus}
 use Rattle.proposal_lines.specs.Output.{other_line, proposing_line, served_line, settlement_reply, written_reply}
-use Rattle.proposal_lines.specs.Answers.{state_by_lines}
+use Rattle.proposal_lines.specs.Answers.{state_by}
 use Rattle.proposal_lines.specs.Proposed.{after_proposed, judged_effect, kept_by, offered, proposed_by, proposed_of, proposed_reply, stale_effect, unproved_effect}
 use Rattle.proposal_lines.specs.ProposingState.{ProposingState, state_of}
 use Rattle.proposal_lines.specs.Reads.{refused_by}
@@ -49,20 +49,20 @@ use Rattle.proposal_lines.proofs.Lowering.{IsNoLess, after_counts, after_no_less
 use Rattle.proposal_lines.proofs.ByMarket.{none_left, other_way, others_kept, others_removed, own_counts, own_kept, removed_in_others, with_in_others}
 use Rattle.proposal_lines.proofs.Clearing.{bounded_where}
 
-abbrev live_in : ExchangeState → ℕ → List ℕ
+abbrev pub live_in : ExchangeState → ℕ → List ℕ
 live_in exchange market = numbers_of (batch_in exchange market).orders
 
 -- what is kept for other markets is the same, and what counts for this one is no less
-record IsNoWorseFor (market : ℕ) (exchange : ExchangeState) (one other : KeptProposals) : Type 0 where
-  others : without_kept market other ≡ without_kept market one
-  counted : IsNoLess (best_in market (live_in exchange market) one) (best_in market (live_in exchange market) other)
+pub record IsNoWorseFor (market : ℕ) (exchange : ExchangeState) (one other : KeptProposals) : Type 0 where
+  pub others : without_kept market other ≡ without_kept market one
+  pub counted : IsNoLess (best_in market (live_in exchange market) one) (best_in market (live_in exchange market) other)
 
 kept_alike : (market : ℕ) (one other : KeptProposals) → without_kept market other ≡ without_kept market one → (q : ℕ) → nat_eq q market ≡ false → kept_in q other ≡ kept_in q one
 kept_alike market one other others q apart = sym (others_removed market q apart other) ∙ ap (kept_in q) others ∙ others_removed market q apart one
 
-record IsNoWorse (market : ℕ) (one other : ProposingState) : Type 0 where
-  exchange : other.exchange ≡ one.exchange
-  kept : IsNoWorseFor market one.exchange one.kept other.kept
+pub record IsNoWorse (market : ℕ) (one other : ProposingState) : Type 0 where
+  pub exchange : other.exchange ≡ one.exchange
+  pub kept : IsNoWorseFor market one.exchange one.kept other.kept
 
 -- ---- a clear tells no lower surplus
 module _ (market : ℕ) (exchange : ExchangeState) (one other : KeptProposals) (no_worse : IsNoWorseFor market exchange one other) (q budget : ℕ) where
@@ -216,7 +216,7 @@ module _ (exchange : ExchangeState) (proposed : Proposed) where
 
 -- ---- lines
 module _ (market : ℕ) (exchange : ExchangeState) (one other : KeptProposals) (no_worse : IsNoWorseFor market exchange one other) where
-  unchanged : IsNoWorse market (state_of exchange one) (state_of exchange other)
+  pub unchanged : IsNoWorse market (state_of exchange one) (state_of exchange other)
   unchanged = record { exchange = refl; kept = no_worse }
 
   proposed_both : (said : Result Proposed Fault) → IsNoWorse market (proposed_reply (state_of exchange one) said).1 (proposed_reply (state_of exchange other) said).1
@@ -234,7 +234,7 @@ module _ (market : ℕ) (exchange : ExchangeState) (one other : KeptProposals) (
   OrdersStay after = batch_in after market ≡ batch_in exchange market
 
   -- and what is kept for it
-  left_both : (after : ExchangeState) → OrdersStay after → (left : KeptProposals → KeptProposals) → without_kept market (left other) ≡ without_kept market (left one)
+  pub left_both : (after : ExchangeState) → OrdersStay after → (left : KeptProposals → KeptProposals) → without_kept market (left other) ≡ without_kept market (left one)
       → ((kept : KeptProposals) → kept_in market (left kept) ≡ kept_in market kept) → IsNoWorse market (state_of after (left one)) (state_of after (left other))
   left_both after stay left others here = record {
     exchange = refl;
@@ -315,7 +315,7 @@ module _ (market : ℕ) (exchange : ExchangeState) (one other : KeptProposals) (
     abbrev ClearsNot : Result Request Fault → Type 0
     ClearsNot said = (budget : ℕ) → said ≡ Ok (asks.Command (Clear market budget)) → ⊥
 
-    said_both : (said : Result Request Fault) → ClearsNot said → Both (λ state. served_line number state line said)
+    pub said_both : (said : Result Request Fault) → ClearsNot said → Both (λ state. served_line number state line said)
     said_both =
         by_kind (λ said. ClearsNot said → Both (λ state. served_line number state line said))
         (λ request none stay. proposed_both (proposed_of line request))
@@ -334,24 +334,14 @@ module _ (market : ℕ) (exchange : ExchangeState) (one other : KeptProposals) (
         by cleared budget true own none = absurd (none budget (ap (λ (q : ℕ). Ok (asks.Command (Clear q budget))) (same_number cleared market own)))
         by cleared budget false apart none = clear_both cleared budget apart
 
-    line_both : IsNoClearOf market (body_of_line line) → Both (λ state. proposing_line number state line)
+    pub line_both : IsNoClearOf market (body_of_line line) → Both (λ state. proposing_line number state line)
     line_both none = said_both (said_in SERVED line) (λ budget is. none budget (command_to_run SERVED line (Clear market budget) is))
 
 -- a state with the exchange of another
 with_exchange : (market : ℕ) (one other : ProposingState) → IsNoWorse market one other → other ≡ state_of one.exchange other.kept
 with_exchange market one other no_worse = ap (λ e. state_of e other.kept) no_worse.exchange
 
-lines_both : (market : ℕ) (lines : List InputLine) (one other : ProposingState) → IsNoWorse market one other → LeaveOrders market one lines
-    → IsNoWorse market (state_by_lines one lines) (state_by_lines other lines)
-lines_both market [] one other no_worse leave = no_worse
-lines_both market (line ∷ lines) one other no_worse leave =
-    let step : ProposingState → ProposingState = λ state. (proposing_line line.number state line.bytes).1 in
-    let next : IsNoWorse market (step one) (step (state_of one.exchange other.kept)) =
-    line_both market one.exchange one.kept other.kept no_worse.kept line.number line.bytes leave.0 leave.1 in
-    lines_both market lines (step one) (step other)
-    (subst (λ (s : ProposingState). IsNoWorse market (step one) (step s)) (sym (with_exchange market one other no_worse)) next) leave.2
-
--- ---- a proposal and then such lines
+-- ---- a proposal
 no_worse_unharmed : (market : ℕ) (one other : ProposingState) → IsNoWorse market one other → IsUnharmed one other
 no_worse_unharmed market one other no_worse = record {
   exchange = no_worse.exchange;
@@ -368,7 +358,57 @@ proposed_no_worse state proposed =
       | Some first ↦ record { exchange = refl; kept = stays state.exchange proposed state.kept }
     ]
 
+-- ---- states in which an exchange stands that takes proposals
+module _ {S : Type 0} (proposing : S → ProposingState) (placing : S → ProposingState → S) where
+  -- two differ by what is kept alone, and it is no worse
+  pub record IsNoWorseIn (market : ℕ) (one other : S) : Type 0 where
+    pub placed : other ≡ placing one (proposing other)
+    pub no_worse : IsNoWorse market (proposing one) (proposing other)
+
+  -- the state with this kept in place of what is
+  abbrev pub keeping : S → KeptProposals → S
+  keeping state kept = placing state (state_of (proposing state).exchange kept)
+
+  as_kept : (market : ℕ) (one other : S) → IsNoWorseIn market one other → other ≡ keeping one (proposing other).kept
+  as_kept market one other good = good.placed ∙ ap (placing one) (with_exchange market (proposing one) (proposing other) good.no_worse)
+
+-- ---- a proposal and then such lines, by a way of answering whose steps do not look at what is kept
+module _ {S : Type 0} (proposing : S → ProposingState) (step : ℕ → S → List ℕ → List ℕ × S) (placing : S → ProposingState → S) where
+  -- so they do after a line
+  abbrev pub StepsAlike : Type 0
+  StepsAlike =
+      (market : ℕ) (line : InputLine) (state : S) (kept : KeptProposals) → IsNoWorseFor market (proposing state).exchange (proposing state).kept kept
+      → IsNoClearOf market (body_of_line line.bytes)
+      → batch_in (proposing (step line.number state line.bytes).1).exchange market ≡ batch_in (proposing state).exchange market
+      → IsNoWorseIn proposing placing market (step line.number state line.bytes).1 (step line.number (keeping proposing placing state kept) line.bytes).1
+
+  module _ (alike : StepsAlike) where
+    lines_good : (market : ℕ) (lines : List InputLine) (one other : S) → IsNoWorseIn proposing placing market one other → LeaveOrders proposing step market one lines
+        → IsNoWorseIn proposing placing market (state_by step one lines) (state_by step other lines)
+    lines_good market [] one other good leave = good
+    lines_good market (line ∷ lines) one other good leave =
+        let next : S → S = λ state. (step line.number state line.bytes).1 in
+        lines_good market lines (next one) (next other)
+        (subst (λ (s : S). IsNoWorseIn proposing placing market (next one) (next s)) (sym (as_kept proposing placing market one other good))
+        (alike market line one (proposing other).kept good.no_worse.kept leave.0 leave.1)) leave.2
+
+    pub lowers_nothing : ((state : S) (now : ProposingState) → proposing (placing state now) ≡ now) → LowersNothing proposing step placing
+    lowers_nothing placed state proposed lines leave =
+        let now = (proposed_reply (proposing state) (Ok proposed)).1 in
+        let same = placed state now in
+        let first : IsNoWorseIn proposing placing proposed.market state (placing state now) = record {
+          placed = ap (placing state) (sym same);
+          no_worse = subst (IsNoWorse proposed.market (proposing state)) (sym same) (proposed_no_worse (proposing state) proposed);
+        } in
+        let good = lines_good proposed.market lines state (placing state now) first leave in
+        no_worse_unharmed proposed.market (proposing (state_by step state lines)) (proposing (state_by step (placing state now) lines)) good.no_worse
+
+-- an exchange that takes proposals, and no more
 pub proposals_lower_nothing : ProposalsLowerNothing
-proposals_lower_nothing state proposed lines leave =
-    no_worse_unharmed proposed.market (state_by_lines state lines) (state_by_lines (proposed_reply state (Ok proposed)).1 lines)
-    (lines_both proposed.market lines state (proposed_reply state (Ok proposed)).1 (proposed_no_worse state proposed) leave)
+proposals_lower_nothing =
+    lowers_nothing (λ state. state) proposing_line (λ state now. now)
+    (λ market line state kept no_worse none stay. record {
+      placed = refl;
+      no_worse = line_both market state.exchange state.kept kept no_worse line.number line.bytes none stay;
+    })
+    (λ state now. refl)

@@ -17,7 +17,6 @@ pub mod printing;
 pub mod replies;
 pub mod shape;
 mod small_lines;
-pub mod small_values;
 pub mod words;
 
 pub use lines::print;
@@ -25,4 +24,3 @@ pub use number_texts::has_numbers;
 pub use replies::Reply;
 pub use settlement::{PaidOut, Payouts};
 pub use shape::has_shape;
-pub use small_values::{fraction_string, state_value};

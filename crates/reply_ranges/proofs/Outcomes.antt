@@ -15,7 +15,7 @@ use Rattle.cert_check.specs.declared.outcome.Mark.TheVariants as mark
 use Rattle.clearing.specs.Outcome.{cover_of, fallback, has_values, optimal_outcome, outcome_at, outcome_of, placed_value, run_of, weighted_of, written_node}
 use Rattle.clearing_model.specs.Certificate.{Point}
 use Rattle.clearing_model.specs.Written.{SplitNode, LeafNode, WrittenTree, Ends as EndsTree, Parts, multipliers_of, nodes_of}
-use Rattle.constraint_generation.specs.Run.{Solution, WrittenCover, by_line, by_tree}
+use Rattle.constraint_generation.specs.Run.{CoveredReading, WrittenCover, by_line, by_tree}
 use Rattle.sign_tree.specs.declared.trees.Multiplier.{Multiplier}
 use Rattle.sign_tree.specs.declared.trees.Node.{Node}
 use Rattle.simplex_run.specs.Ending.{Ending, done, unbounded, wide_at, no_unit_left}
@@ -95,11 +95,11 @@ operand pair x same is =
     subst IsPair (sym same) (is.lowest, omega (arith, ints, some), omega (arith, above), omega (arith, ints, below))
 
 -- ---- the outcome
-solved_within : (s : Solution) (units : ℕ) → IsSolutionOf s → IsMarkWithin (optimal_outcome s units).mark
+solved_within : (s : CoveredReading) (units : ℕ) → IsSolutionOf s → IsMarkWithin (optimal_outcome s units).mark
 unfolding optimal_outcome
 solved_within (r, cover) units of = (cover_within cover of.1, recursion_from_All IsPointWithin (map weighted_of r.measure) (points_within r.measure of.0.points))
 
-at_end : (orders : List Order) (budget : ℕ) (e : Ending Solution) → Ends IsSolutionOf e → IsMarkWithin (outcome_at orders budget e).mark
+at_end : (orders : List Order) (budget : ℕ) (e : Ending CoveredReading) → Ends IsSolutionOf e → IsMarkWithin (outcome_at orders budget e).mark
 unfolding fallback
 at_end orders budget (done s units) of = elim (has_values s) as (λ b. IsMarkWithin (if b then optimal_outcome s units else fallback orders mark.Budget budget).mark) [
   | true ↦ solved_within s units of

@@ -13,7 +13,7 @@ use Rattle.master_program.specs.Master.{master, zero_prices}
 use Rattle.master_program.specs.Solve.{master_run, master_solve, on_optimum, reading_at}
 use Rattle.master_program.specs.Rounds.{Cleared, rounds}
 use Rattle.constraint_generation.specs.Answers.{limits_of}
-use Rattle.constraint_generation.specs.Run.{Solution, line_run, on_line, on_tree, sums_hold as line_sums}
+use Rattle.constraint_generation.specs.Run.{CoveredReading, line_run, on_line, on_tree, sums_hold as line_sums}
 use Rattle.constraint_generation.proofs.JointRuns.{by_count, joint_run-is, the_line}
 use Rattle.search_laws.specs.Rounds.{AreCounted}
 use Rattle.search_laws.specs.Run.{sums_hold as tree_sums, tree_run}
@@ -78,7 +78,7 @@ run_spends batch budget within = subst (Spends budget) (sym (joint_run-is (limit
         answer_spends budget (tree_run (limits_of largest budget) batch.underlyings batch.orders 0) on_tree (tree_spends budget batch.underlyings batch.orders within.has_forms.some within.has_forms.few)
         (λ c units low. low)
 
-at_end : (orders : List Order) (budget : ℕ) (e : Ending Solution) → Spends budget e → (outcome_at orders budget e).units ≤ budget
+at_end : (orders : List Order) (budget : ℕ) (e : Ending CoveredReading) → Spends budget e → (outcome_at orders budget e).units ≤ budget
 unfolding optimal_outcome fallback
 at_end orders budget (done s units) low = elim (has_values s) as (λ b. (if b then optimal_outcome s units else fallback orders mark.Budget budget).units ≤ budget) [
   | true ↦ low

@@ -1,8 +1,8 @@
 pub mod WorkedWhole
 pub mod Multiples
 pub mod StepsFit
-pub mod LineSteps
-pub mod LineTurns
-pub mod TurnSteps
+pub mod IntegerRowSteps
+pub mod IntegerPivots
+pub mod PivotSteps
 pub mod RunSteps
 pub mod SomeLimit

@@ -16,21 +16,21 @@ use Rattle.simplex_run.specs.Program.{LinearProgram}
 use Rattle.simplex_run.specs.Table.{Row, Table, row_of, with_right, entries_at, entry_for, no_entry, right_side, where_basic, first_table}
 use Rattle.simplex_run.specs.Choice.{Column, entering}
 use Rattle.simplex_run.specs.Ending.{Ending, done, unbounded, wide_at, no_unit_left, HasNoMisfit}
-use Rattle.simplex_run.specs.Run.{Optimum, optimum, moved, unlimited, turn, on_entering, on_turn, solution, price_of, read_off, direction, run_from, run}
-use Rattle.simplex_run.specs.Turns.{table_after}
+use Rattle.simplex_run.specs.Run.{Optimum, optimum, moved, unlimited, pivoted, on_entering, on_pivot, solution, reduced_cost_of, read_off, direction, run_from, run}
+use Rattle.simplex_run.specs.Pivots.{table_after}
 use Rattle.simplex_run.specs.Optimum.{IsProgram}
 use Rattle.simplex_run.proofs.Entries.{IsTable}
 use Rattle.simplex_run.proofs.FirstTable.{first_is_table}
-use Rattle.run_equivalence.specs.Lines.{AreLines, IsShaped, IsWithin, WholeRow, LineTable, number_at, entry_of, fractions_over, fractions_of, row_for, table_for, multiple, least_multiple, taken_in, row_taken_in, table_taken_in, rows_fit}
-use Rattle.run_equivalence.specs.WholeTurning.{whole_entering, whole_turn, turn_fits}
-use Rattle.run_equivalence.specs.WholeRunning.{whole_where_basic, none_of, whole_price, whole_solution, whole_read_off, whole_direction, on_column, on_whole_turn, whole_run_from, first_whole_table, whole_run, within, within_turned, whole_turned_by, next_whole_table, whole_table_after}
-use Rattle.run_equivalence.specs.WholeLaws.{as_turn, or_fractions, EitherWayTheSame, TablesAgree, RunsAgree, NoStepMisfits, TablesStand, BoundsInUse}
+use Rattle.run_equivalence.specs.IntegerRows.{AreIntegerRows, IsShaped, IsWithin, WholeRow, IntegerTable, number_at, entry_of, fractions_over, fractions_of, row_for, table_for, multiple, least_multiple, taken_in, row_taken_in, table_taken_in, rows_fit}
+use Rattle.run_equivalence.specs.WholePivoting.{whole_entering, whole_pivot, pivot_fits}
+use Rattle.run_equivalence.specs.WholeRunning.{whole_where_basic, none_of, whole_reduced_cost, whole_solution, whole_read_off, whole_direction, on_column, on_whole_pivot, whole_run_from, first_whole_table, whole_run, within, within_moved, whole_moved_by, next_whole_table, whole_table_after}
+use Rattle.run_equivalence.specs.WholeLaws.{as_pivot, or_fractions, EitherWayTheSame, TablesAgree, RunsAgree, NoStepMisfits, TablesStand, BoundsInUse}
 use Rattle.run_equivalence.proofs.Multiples.{is_reduced, reduced_negated}
-use Rattle.run_equivalence.proofs.LineSteps.{reduced_zero, fraction_at}
-use Rattle.run_equivalence.proofs.TurnSteps.{AreShaped, IsWhole, within_of_fit, entering_same, entering_inside, turns_agree, unlimited_fits, turned_whole}
+use Rattle.run_equivalence.proofs.IntegerRowSteps.{reduced_zero, fraction_at}
+use Rattle.run_equivalence.proofs.PivotSteps.{AreShaped, IsWhole, within_of_fit, entering_same, entering_inside, pivots_agree, unlimited_fits, turned_whole}
 
 -- ---- reading off
-pub where_same : (bound n : ℕ) (f : Row → Fraction) (g : WholeRow → Fraction) (j : ℕ) (rows : List WholeRow) → ((row : WholeRow) → 0 < row.line.denominator → f (row_for row) ≡ g row) → AreLines bound n rows → where_basic f j (map row_for rows) ≡ whole_where_basic g j rows
+pub where_same : (bound n : ℕ) (f : Row → Fraction) (g : WholeRow → Fraction) (j : ℕ) (rows : List WholeRow) → ((row : WholeRow) → 0 < row.line.denominator → f (row_for row) ≡ g row) → AreIntegerRows bound n rows → where_basic f j (map row_for rows) ≡ whole_where_basic g j rows
 unfolding where_basic whole_where_basic
 where_same bound n f g j [] h s = refl
 where_same bound n f g j (row ∷ rows) h s =
@@ -48,21 +48,21 @@ entry_number d (v ∷ vs) (z ∷ zs) j p = ap (λ w. if nat_eq v j then reduced 
     step true = refl
     step false = refl
 
-price_same : (limit k : ℕ) (t : LineTable) (j : ℕ) → IsWithin limit k t → price_of (table_for t) j ≡ whole_price t j
+price_same : (limit k : ℕ) (t : IntegerTable) (j : ℕ) → IsWithin limit k t → reduced_cost_of (table_for t) j ≡ whole_reduced_cost t j
 price_same limit k t j g = entry_number t.objective.denominator (with_right t.columns t.labels) t.objective.numbers j g.objective.positive
 
-read_same : (limit k n m : ℕ) (t : LineTable) (spent : ℕ) → IsWithin limit k t → read_off n m (table_for t) spent ≡ whole_read_off n m t spent
+read_same : (limit k n m : ℕ) (t : IntegerTable) (spent : ℕ) → IsWithin limit k t → read_off n m (table_for t) spent ≡ whole_read_off n m t spent
 unfolding read_off whole_read_off
 read_same limit k n m t spent g =
     let last : ℕ = length t.labels in
     let x : solution n (table_for t) ≡ whole_solution n t = listed_alike (λ j. where_basic (λ row. right_side last row.entries) j (map row_for t.rows)) (λ j. whole_where_basic (λ row. entry_of row.line last) j t.rows) 0 n
     (λ j. where_same limit (suc k) (λ row. right_side last row.entries) (λ row. entry_of row.line last) j t.rows (λ row p. fraction_at row.line.denominator row.line.numbers last p) g.rows) in
-    let y = listed_alike (price_of (table_for t)) (whole_price t) n m (λ j. price_same limit k t j g) in
-    let r = listed_alike (price_of (table_for t)) (whole_price t) 0 n (λ j. price_same limit k t j g) in
+    let y = listed_alike (reduced_cost_of (table_for t)) (whole_reduced_cost t) n m (λ j. price_same limit k t j g) in
+    let r = listed_alike (reduced_cost_of (table_for t)) (whole_reduced_cost t) 0 n (λ j. price_same limit k t j g) in
     let v : at (fractions_of t.objective) last ≡ entry_of t.objective last = fraction_at t.objective.denominator t.objective.numbers last g.objective.positive in
     λ i. done (optimum (x i) (y i) (r i) (v i)) spent
 
-direction_same : (limit k n : ℕ) (t : LineTable) (c : Column) → IsWithin limit k t → direction n c (table_for t) ≡ whole_direction n c t
+direction_same : (limit k n : ℕ) (t : IntegerTable) (c : Column) → IsWithin limit k t → direction n c (table_for t) ≡ whole_direction n c t
 unfolding direction whole_direction
 direction_same limit k n t c g =
     listed_alike (λ j. if nat_eq j c.label then whole (pos 1) else where_basic (λ row. negated (at row.entries c.place)) j (map row_for t.rows))
@@ -169,7 +169,7 @@ unfolding first_whole_table
 first_whole p g = table_whole p.variables p.rows (first_table p) (first_is_table p g)
 
 -- ---- the run
-run_same : (limit k n m left spent : ℕ) (w : LineTable) (end : Ending Optimum) → IsWithin limit k w
+run_same : (limit k n m left spent : ℕ) (w : IntegerTable) (end : Ending Optimum) → IsWithin limit k w
     → whole_run_from limit n m left spent w ≡ Some end → run_from limit n m left spent (table_for w) ≡ end
 unfolding run_from whole_run_from
 run_same limit k n m zero spent w end g h = rw (← (entering_same w g.objective.positive)) (step (whole_entering w) h)
@@ -180,32 +180,32 @@ run_same limit k n m zero spent w end g h = rw (← (entering_same w g.objective
 run_same limit k n m (suc left) spent w end g h =
     rw (← (entering_same w g.objective.positive)) (step (whole_entering w) refl (λ u s q. run_same limit k n m left (spent + 1) u end s q) h)
   where
-    go : ℕ → LineTable → Option (Ending Optimum)
-    go c next = if turn_fits limit c w && rows_fit limit next.rows then whole_run_from limit n m left (spent + 1) next else None
+    go : ℕ → IntegerTable → Option (Ending Optimum)
+    go c next = if pivot_fits limit c w && rows_fit limit next.rows then whole_run_from limit n m left (spent + 1) next else None
 
-    by_turn : Column → Ending Optimum
-    by_turn c = on_turn (turn limit c.place (table_for w)) (λ next. run_from limit n m left (spent + 1) next) (unbounded (direction n c (table_for w)) (spent + 1)) (λ w. wide_at (spent + 1) w)
+    by_pivot : Column → Ending Optimum
+    by_pivot c = on_pivot (pivoted limit c.place (table_for w)) (λ next. run_from limit n m left (spent + 1) next) (unbounded (direction n c (table_for w)) (spent + 1)) (λ w. wide_at (spent + 1) w)
 
-    next_run : (c : Column) (u : LineTable) → c.place < k → whole_turn c.place w ≡ Some u → ((v : LineTable) → IsWithin limit k v → whole_run_from limit n m left (spent + 1) v ≡ Some end → run_from limit n m left (spent + 1) (table_for v) ≡ end)
-        → (b : Bool) → (turn_fits limit c.place w && rows_fit limit u.rows) ≡ b → (if b then whole_run_from limit n m left (spent + 1) u else None) ≡ Some end → by_turn c ≡ end
+    next_run : (c : Column) (u : IntegerTable) → c.place < k → whole_pivot c.place w ≡ Some u → ((v : IntegerTable) → IsWithin limit k v → whole_run_from limit n m left (spent + 1) v ≡ Some end → run_from limit n m left (spent + 1) (table_for v) ≡ end)
+        → (b : Bool) → (pivot_fits limit c.place w && rows_fit limit u.rows) ≡ b → (if b then whole_run_from limit n m left (spent + 1) u else None) ≡ Some end → by_pivot c ≡ end
     next_run c u in_c f later true t q =
-        let parts = and_parts (turn_fits limit c.place w) (rows_fit limit u.rows) t in
-        let moves : turn limit c.place (table_for w) ≡ moved (table_for u) = turns_agree limit k c.place w g in_c parts.0 ∙ ap as_turn f in
+        let parts = and_parts (pivot_fits limit c.place w) (rows_fit limit u.rows) t in
+        let moves : pivoted limit c.place (table_for w) ≡ moved (table_for u) = pivots_agree limit k c.place w g in_c parts.0 ∙ ap as_pivot f in
         rw moves (later u (within_of_fit limit k u (turned_whole limit k c.place w u g f) parts.1) q)
     next_run c u in_c f later false t q = absurd cc
 
-    act : (c : Column) → c.place < k → ((v : LineTable) → IsWithin limit k v → whole_run_from limit n m left (spent + 1) v ≡ Some end → run_from limit n m left (spent + 1) (table_for v) ≡ end)
-        → (o : Option LineTable) → whole_turn c.place w ≡ o → on_whole_turn o (Some (unbounded (whole_direction n c w) (spent + 1))) (go c.place) ≡ Some end → by_turn c ≡ end
+    act : (c : Column) → c.place < k → ((v : IntegerTable) → IsWithin limit k v → whole_run_from limit n m left (spent + 1) v ≡ Some end → run_from limit n m left (spent + 1) (table_for v) ≡ end)
+        → (o : Option IntegerTable) → whole_pivot c.place w ≡ o → on_whole_pivot o (Some (unbounded (whole_direction n c w) (spent + 1))) (go c.place) ≡ Some end → by_pivot c ≡ end
     act c in_c later None f q =
-        let stays : turn limit c.place (table_for w) ≡ unlimited = turns_agree limit k c.place w g in_c (unlimited_fits limit c.place w f) ∙ ap as_turn f in
+        let stays : pivoted limit c.place (table_for w) ≡ unlimited = pivots_agree limit k c.place w g in_c (unlimited_fits limit c.place w f) ∙ ap as_pivot f in
         rw stays (ap (λ d. unbounded d (spent + 1)) (direction_same limit k n w c g) ∙ cc)
-    act c in_c later (Some u) f q = next_run c u in_c f later (turn_fits limit c.place w && rows_fit limit u.rows) refl q
+    act c in_c later (Some u) f q = next_run c u in_c f later (pivot_fits limit c.place w && rows_fit limit u.rows) refl q
 
-    step : (o : Option Column) → whole_entering w ≡ o → ((v : LineTable) → IsWithin limit k v → whole_run_from limit n m left (spent + 1) v ≡ Some end → run_from limit n m left (spent + 1) (table_for v) ≡ end)
-        → on_column o (Some (whole_read_off n m w spent)) (λ c. on_whole_turn (whole_turn c.place w) (Some (unbounded (whole_direction n c w) (spent + 1))) (go c.place)) ≡ Some end
-        → on_entering o (read_off n m (table_for w) spent) by_turn ≡ end
+    step : (o : Option Column) → whole_entering w ≡ o → ((v : IntegerTable) → IsWithin limit k v → whole_run_from limit n m left (spent + 1) v ≡ Some end → run_from limit n m left (spent + 1) (table_for v) ≡ end)
+        → on_column o (Some (whole_read_off n m w spent)) (λ c. on_whole_pivot (whole_pivot c.place w) (Some (unbounded (whole_direction n c w) (spent + 1))) (go c.place)) ≡ Some end
+        → on_entering o (read_off n m (table_for w) spent) by_pivot ≡ end
     step None f later h = read_same limit k n m w spent g ∙ cc
-    step (Some c) f later h = act c (entering_inside k w c g.labels f) later (whole_turn c.place w) refl h
+    step (Some c) f later h = act c (entering_inside k w c g.labels f) later (whole_pivot c.place w) refl h
 
 pub runs_agree : RunsAgree
 unfolding run whole_run
@@ -218,7 +218,7 @@ runs_agree limit p left spent end g h = step (rows_fit limit (first_whole_table 
     step false t q = absurd cc
 
 -- a run that is not given up ends with no misfit
-no_misfit_from : (limit n m left spent : ℕ) (w : LineTable) (end : Ending Optimum) → whole_run_from limit n m left spent w ≡ Some end → HasNoMisfit end
+no_misfit_from : (limit n m left spent : ℕ) (w : IntegerTable) (end : Ending Optimum) → whole_run_from limit n m left spent w ≡ Some end → HasNoMisfit end
 unfolding whole_run_from whole_read_off
 no_misfit_from limit n m zero spent w end h = step (whole_entering w) h
   where
@@ -227,21 +227,21 @@ no_misfit_from limit n m zero spent w end h = step (whole_entering w) h
     step (Some c) h = let q : no_unit_left spent ≡ end = cc in subst HasNoMisfit q tt
 no_misfit_from limit n m (suc left) spent w end h = step (whole_entering w) (λ u q. no_misfit_from limit n m left (spent + 1) u end q) h
   where
-    go : ℕ → LineTable → Option (Ending Optimum)
-    go e next = if turn_fits limit e w && rows_fit limit next.rows then whole_run_from limit n m left (spent + 1) next else None
+    go : ℕ → IntegerTable → Option (Ending Optimum)
+    go e next = if pivot_fits limit e w && rows_fit limit next.rows then whole_run_from limit n m left (spent + 1) next else None
 
-    next_run : (u : LineTable) → (b : Bool) → (whole_run_from limit n m left (spent + 1) u ≡ Some end → HasNoMisfit end) → (if b then whole_run_from limit n m left (spent + 1) u else None) ≡ Some end → HasNoMisfit end
+    next_run : (u : IntegerTable) → (b : Bool) → (whole_run_from limit n m left (spent + 1) u ≡ Some end → HasNoMisfit end) → (if b then whole_run_from limit n m left (spent + 1) u else None) ≡ Some end → HasNoMisfit end
     next_run u true later q = later q
     next_run u false later q = absurd cc
 
-    act : (c : Column) → ((v : LineTable) → whole_run_from limit n m left (spent + 1) v ≡ Some end → HasNoMisfit end) → (o : Option LineTable) → on_whole_turn o (Some (unbounded (whole_direction n c w) (spent + 1))) (go c.place) ≡ Some end → HasNoMisfit end
+    act : (c : Column) → ((v : IntegerTable) → whole_run_from limit n m left (spent + 1) v ≡ Some end → HasNoMisfit end) → (o : Option IntegerTable) → on_whole_pivot o (Some (unbounded (whole_direction n c w) (spent + 1))) (go c.place) ≡ Some end → HasNoMisfit end
     act c later None q = let s : unbounded (whole_direction n c w) (spent + 1) ≡ end = cc in subst HasNoMisfit s tt
-    act c later (Some u) q = next_run u (turn_fits limit c.place w && rows_fit limit u.rows) (later u) q
+    act c later (Some u) q = next_run u (pivot_fits limit c.place w && rows_fit limit u.rows) (later u) q
 
-    step : (o : Option Column) → ((v : LineTable) → whole_run_from limit n m left (spent + 1) v ≡ Some end → HasNoMisfit end)
-        → on_column o (Some (whole_read_off n m w spent)) (λ c. on_whole_turn (whole_turn c.place w) (Some (unbounded (whole_direction n c w) (spent + 1))) (go c.place)) ≡ Some end → HasNoMisfit end
+    step : (o : Option Column) → ((v : IntegerTable) → whole_run_from limit n m left (spent + 1) v ≡ Some end → HasNoMisfit end)
+        → on_column o (Some (whole_read_off n m w spent)) (λ c. on_whole_pivot (whole_pivot c.place w) (Some (unbounded (whole_direction n c w) (spent + 1))) (go c.place)) ≡ Some end → HasNoMisfit end
     step None later h = let q : whole_read_off n m w spent ≡ end = cc in subst HasNoMisfit q tt
-    step (Some c) later h = act c later (whole_turn c.place w) h
+    step (Some c) later h = act c later (whole_pivot c.place w) h
 
 no_misfit : (limit : ℕ) (p : LinearProgram) (left spent : ℕ) (end : Ending Optimum) → whole_run limit p left spent ≡ Some end → HasNoMisfit end
 unfolding whole_run
@@ -263,47 +263,47 @@ either_way_the_same limit p left spent g = step (whole_run limit p left spent) r
 
 -- ---- the tables
 -- a table of the run, and the one that it stands for
-pub record IsTableAfter (limit n k : ℕ) (p : LinearProgram) (w : LineTable) : Type 0 where
+pub record IsTableAfter (limit n k : ℕ) (p : LinearProgram) (w : IntegerTable) : Type 0 where
   pub inside : IsWithin limit n w
   pub table : table_after limit p k ≡ Some (table_for w)
 
-kept_within : (limit : ℕ) (u w : LineTable) → within limit u ≡ Some w → (rows_fit limit u.rows ≡ true) × (u ≡ w)
+kept_within : (limit : ℕ) (u w : IntegerTable) → within limit u ≡ Some w → (rows_fit limit u.rows ≡ true) × (u ≡ w)
 kept_within limit u w h = step (rows_fit limit u.rows) refl h
   where
     step : (b : Bool) → rows_fit limit u.rows ≡ b → (if b then Some u else None) ≡ Some w → (rows_fit limit u.rows ≡ true) × (u ≡ w)
     step true t q = (t, cc)
     step false t q = absurd cc
 
-tables_stand : (limit : ℕ) (p : LinearProgram) (k : ℕ) (w : LineTable) → IsProgram p → whole_table_after limit p k ≡ Some w → IsTableAfter limit p.variables k p w
+tables_stand : (limit : ℕ) (p : LinearProgram) (k : ℕ) (w : IntegerTable) → IsProgram p → whole_table_after limit p k ≡ Some w → IsTableAfter limit p.variables k p w
 unfolding whole_table_after table_after
 tables_stand limit p zero w g h =
     let c = kept_within limit (first_whole_table p) w h in
-    subst (λ (v : LineTable). IsTableAfter limit p.variables zero p v) c.1
+    subst (λ (v : IntegerTable). IsTableAfter limit p.variables zero p v) c.1
     (record { inside = within_of_fit limit p.variables (first_whole_table p) (first_whole p g) c.0; table = ap Some (sym (first_same p g)) })
 tables_stand limit p (suc k) w g h = step (whole_table_after limit p k) refl (λ u q. tables_stand limit p k u g q) h
   where
     n : ℕ
     n = p.variables
 
-    act : (u : LineTable) (c : Column) → IsTableAfter limit n k p u → whole_entering u ≡ Some c → turn_fits limit c.place u ≡ true → (o : Option LineTable) → whole_turn c.place u ≡ o → within_turned limit o ≡ Some w → IsTableAfter limit n (suc k) p w
+    act : (u : IntegerTable) (c : Column) → IsTableAfter limit n k p u → whole_entering u ≡ Some c → pivot_fits limit c.place u ≡ true → (o : Option IntegerTable) → whole_pivot c.place u ≡ o → within_moved limit o ≡ Some w → IsTableAfter limit n (suc k) p w
     act u c s f fits None t q = absurd cc
     act u c s f fits (Some v) t q =
         let kept = kept_within limit v w q in
         let before = s.table in
         let enters : entering (table_for u) ≡ Some c = sym (entering_same u s.inside.objective.positive) ∙ f in
-        let turned : turn limit c.place (table_for u) ≡ moved (table_for v) = turns_agree limit n c.place u s.inside (entering_inside n u c s.inside.labels f) fits ∙ ap as_turn t in
-        subst (λ (v : LineTable). IsTableAfter limit n (suc k) p v) kept.1
+        let turned : pivoted limit c.place (table_for u) ≡ moved (table_for v) = pivots_agree limit n c.place u s.inside (entering_inside n u c s.inside.labels f) fits ∙ ap as_pivot t in
+        subst (λ (v : IntegerTable). IsTableAfter limit n (suc k) p v) kept.1
         (record { inside = within_of_fit limit n v (turned_whole limit n c.place u v s.inside t) kept.0; table = rw (before, enters, turned) refl })
 
-    fitting : (u : LineTable) (c : Column) → IsTableAfter limit n k p u → whole_entering u ≡ Some c → (b : Bool) → turn_fits limit c.place u ≡ b → (if b then within_turned limit (whole_turn c.place u) else None) ≡ Some w → IsTableAfter limit n (suc k) p w
-    fitting u c s f true fits q = act u c s f fits (whole_turn c.place u) refl q
+    fitting : (u : IntegerTable) (c : Column) → IsTableAfter limit n k p u → whole_entering u ≡ Some c → (b : Bool) → pivot_fits limit c.place u ≡ b → (if b then within_moved limit (whole_pivot c.place u) else None) ≡ Some w → IsTableAfter limit n (suc k) p w
+    fitting u c s f true fits q = act u c s f fits (whole_pivot c.place u) refl q
     fitting u c s f false fits q = absurd cc
 
-    enter : (u : LineTable) → IsTableAfter limit n k p u → (o : Option Column) → whole_entering u ≡ o → whole_turned_by limit u o ≡ Some w → IsTableAfter limit n (suc k) p w
+    enter : (u : IntegerTable) → IsTableAfter limit n k p u → (o : Option Column) → whole_entering u ≡ o → whole_moved_by limit u o ≡ Some w → IsTableAfter limit n (suc k) p w
     enter u s None f q = absurd cc
-    enter u s (Some c) f q = fitting u c s f (turn_fits limit c.place u) refl q
+    enter u s (Some c) f q = fitting u c s f (pivot_fits limit c.place u) refl q
 
-    step : (o : Option LineTable) → whole_table_after limit p k ≡ o → ((u : LineTable) → whole_table_after limit p k ≡ Some u → IsTableAfter limit n k p u) → next_whole_table limit o ≡ Some w → IsTableAfter limit n (suc k) p w
+    step : (o : Option IntegerTable) → whole_table_after limit p k ≡ o → ((u : IntegerTable) → whole_table_after limit p k ≡ Some u → IsTableAfter limit n k p u) → next_whole_table limit o ≡ Some w → IsTableAfter limit n (suc k) p w
     step None f later q = absurd cc
     step (Some u) f later q = enter u (later u f) (whole_entering u) refl q
 

@@ -1,5 +1,5 @@
-pub mod Lines
-pub mod WholeTurning
+pub mod IntegerRows
+pub mod WholePivoting
 pub mod WholeRunning
 pub mod WholeLaws
 pub mod WorkedWhole

@@ -7,13 +7,13 @@ use Rattle.exact_num.specs.Fits.{add_of, mul_of, div_of}
 use Rattle.simplex_run.specs.Program.{LinearProgram}
 use Rattle.simplex_run.specs.Choice.{entering}
 use Rattle.simplex_run.specs.Ending.{Ending, HasNoMisfit}
-use Rattle.simplex_run.specs.Run.{Optimum, run, Turn, moved, unlimited, turn}
-use Rattle.simplex_run.specs.Turns.{table_after, IsTableAfter}
+use Rattle.simplex_run.specs.Run.{Optimum, run, PivotEnd, moved, unlimited, pivoted}
+use Rattle.simplex_run.specs.Pivots.{table_after, IsTableAfter}
 use Rattle.simplex_run.specs.Optimum.{IsProgram}
 use Rattle.simplex_run.specs.Limits.{IsFound}
 use Rattle.simplex_run.specs.Choose.{bases_of}
-use Rattle.run_equivalence.specs.Lines.{Line, LineTable, number_at, table_for, line_size, line_fits, AreSizes, IsShaped, IsLine, IsWithin}
-use Rattle.run_equivalence.specs.WholeTurning.{whole_entering, turned_in, without, line_cleared, whole_turn, content, common_of, step_size, steps_within, turn_fits}
+use Rattle.run_equivalence.specs.IntegerRows.{IntegerRow, IntegerTable, number_at, table_for, row_size, row_fits, AreSizes, IsShaped, IsIntegerRow, IsWithin}
+use Rattle.run_equivalence.specs.WholePivoting.{whole_entering, exchanged_in, without, row_eliminated, whole_pivot, content, common_of, step_size, steps_within, pivot_fits}
 use Rattle.run_equivalence.specs.WholeRunning.{whole_run, whole_table_after}
 
 -- ---- steps on fractions that stand for whole numbers fit where those do
@@ -38,8 +38,8 @@ QuotientsFit =
     → unsigned_abs a ≤ limit → c ≤ limit
     → div_of limit x y ≡ Ok (reduced a c)
 
--- ---- the numbers between the steps of a turn, before a line is cut: as wide as the limit at most
-pub record AreBetween (limit a : ℕ) (x : ℤ) (pivot : List ℤ) (l : Line) : Type 0 where
+-- ---- the numbers between the steps of a pivot, before a row is cut: as wide as the limit at most
+pub record AreBetween (limit a : ℕ) (x : ℤ) (pivot : List ℤ) (l : IntegerRow) : Type 0 where
   pub denominator : l.denominator * (a / gcd (unsigned_abs x) a) ≤ limit
   pub left : (j : ℕ) → unsigned_abs (number_at l.numbers j *ℤ pos (a / gcd (unsigned_abs x) a)) ≤ limit
   pub right : (j : ℕ) → unsigned_abs (int_div x (pos (gcd (unsigned_abs x) a)) *ℤ number_at pivot j) ≤ limit
@@ -48,30 +48,30 @@ pub record AreBetween (limit a : ℕ) (x : ℤ) (pivot : List ℤ) (l : Line) : 
 -- where the size that no step is above is
 abbrev pub NumbersBetweenFit : Type 0
 NumbersBetweenFit =
-    (size most limit n a : ℕ) (x : ℤ) (pivot : List ℤ) (l : Line) → step_size size (unsigned_abs x) a most ≤ limit → IsLine size n l → AreSizes most pivot
+    (size most limit n a : ℕ) (x : ℤ) (pivot : List ℤ) (l : IntegerRow) → step_size size (unsigned_abs x) a most ≤ limit → IsIntegerRow size n l → AreSizes most pivot
     → AreBetween limit a x pivot l
 
 -- which it is where twice the product of both sizes is
 abbrev pub StepsWithinRoom : Type 0
-StepsWithinRoom = (limit c : ℕ) (pivot l : Line) → 2 * (line_size l * line_size pivot) ≤ limit → steps_within limit c pivot l ≡ true
+StepsWithinRoom = (limit c : ℕ) (pivot l : IntegerRow) → 2 * (row_size l * row_size pivot) ≤ limit → steps_within limit c pivot l ≡ true
 
--- the lines that a turn mixes are within the same bounds
-abbrev pub LinesFit : Type 0
-LinesFit =
-    (bound n c : ℕ) (l : Line) → IsLine bound n l → IsLine bound n (without c l) × AreSizes bound (turned_in c l)
+-- the rows that a pivot mixes are within the same bounds
+abbrev pub IntegerRowsFit : Type 0
+IntegerRowsFit =
+    (bound n c : ℕ) (l : IntegerRow) → IsIntegerRow bound n l → IsIntegerRow bound n (without c l) × AreSizes bound (exchanged_in c l)
 
--- a line cleared is within the limit where the size that no step is above is
-abbrev pub ClearedLinesFit : Type 0
-ClearedLinesFit =
-    (size most limit n c a : ℕ) (pivot : List ℤ) (l : Line) → step_size size (unsigned_abs (number_at l.numbers c)) a most ≤ limit → IsLine size n l → AreSizes most pivot → length pivot ≡ n → 0 < a
-    → IsLine limit n (line_cleared c a pivot l)
+-- a row eliminated is within the limit where the size that no step is above is
+abbrev pub EliminatedRowsFit : Type 0
+EliminatedRowsFit =
+    (size most limit n c a : ℕ) (pivot : List ℤ) (l : IntegerRow) → step_size size (unsigned_abs (number_at l.numbers c)) a most ≤ limit → IsIntegerRow size n l → AreSizes most pivot → length pivot ≡ n → 0 < a
+    → IsIntegerRow limit n (row_eliminated c a pivot l)
 
--- the size of a line is the least bound that it is within
+-- the size of a row is the least bound that it is within
 abbrev pub SizesBound : Type 0
-SizesBound = (n : ℕ) (l : Line) → IsShaped n l → IsLine (line_size l) n l
+SizesBound = (n : ℕ) (l : IntegerRow) → IsShaped n l → IsIntegerRow (row_size l) n l
 
 abbrev pub SizesLeast : Type 0
-SizesLeast = (bound : ℕ) (l : Line) → line_fits bound l ≡ nat_le (line_size l) bound
+SizesLeast = (bound : ℕ) (l : IntegerRow) → row_fits bound l ≡ nat_le (row_size l) bound
 
 -- the cross products of the ratio test
 abbrev pub CrossProductsFit : Type 0
@@ -79,35 +79,35 @@ CrossProductsFit =
     (bound limit a : ℕ) (b : ℤ) → 2 * (bound * bound) ≤ limit → unsigned_abs b ≤ bound → a ≤ bound
     → unsigned_abs (b *ℤ pos a) ≤ limit
 
--- what a line has in common, number after number
+-- what a row has in common, number after number
 abbrev pub ContentInOrder : Type 0
 ContentInOrder = (d : ℕ) (zs : List ℤ) → common_of d zs ≡ content d zs
 
 -- ---- the tables and the run
--- what the run over fractions makes of a turn
-abbrev pub as_turn : Option LineTable → Turn
-as_turn None = unlimited
-as_turn (Some u) = moved (table_for u)
+-- what the run over fractions makes of a pivot
+abbrev pub as_pivot : Option IntegerTable → PivotEnd
+as_pivot None = unlimited
+as_pivot (Some u) = moved (table_for u)
 
--- from a table within the limit a turn whose steps are meets no misfit, also where it leaves the
+-- from a table within the limit a pivot whose steps are meets no misfit, also where it leaves the
 -- limit: it leaves the same row
-abbrev pub TurnsAgree : Type 0
-TurnsAgree =
-    (limit n c : ℕ) (w : LineTable) → IsWithin limit n w → c < n → turn_fits limit c w ≡ true
-    → turn limit c (table_for w) ≡ as_turn (whole_turn c w)
+abbrev pub PivotsAgree : Type 0
+PivotsAgree =
+    (limit n c : ℕ) (w : IntegerTable) → IsWithin limit n w → c < n → pivot_fits limit c w ≡ true
+    → pivoted limit c (table_for w) ≡ as_pivot (whole_pivot c w)
 
 -- each table of the run is, as fractions, that of the run over fractions with the same limit: so no
 -- step before it misfits, the same columns entered and the same rows left
 abbrev pub TablesAgree : Type 0
 TablesAgree =
-    (limit : ℕ) (p : LinearProgram) (k : ℕ) (w : LineTable) → IsProgram p
+    (limit : ℕ) (p : LinearProgram) (k : ℕ) (w : IntegerTable) → IsProgram p
     → whole_table_after limit p k ≡ Some w
     → (whole_entering w ≡ entering (table_for w)) × (table_after limit p k ≡ Some (table_for w))
 
--- without a limit: each is the table of the run after as many turns
+-- without a limit: each is the table of the run after as many pivots
 abbrev pub TablesStand : Type 0
 TablesStand =
-    (limit : ℕ) (p : LinearProgram) (k : ℕ) (w : LineTable) → IsProgram p
+    (limit : ℕ) (p : LinearProgram) (k : ℕ) (w : IntegerTable) → IsProgram p
     → whole_table_after limit p k ≡ Some w → IsTableAfter p k (table_for w)
 
 -- a run that is not given up ends as the run over fractions does, number for number and unit for

@@ -15,7 +15,7 @@ wide_surplus = program_of (pos (2 ^ 40) ∷ []) (at_most (pos 1 ∷ []) (pos (2 
 abbrev pub wide_surplus_end : Ending Optimum
 wide_surplus_end = done (optimum (wholes (pos (2 ^ 40) ∷ [])) (wholes (pos (2 ^ 40) ∷ [])) (wholes (pos 0 ∷ [])) (whole (pos (2 ^ 80)))) 1
 
--- 3 x1 + x2 under -2 x0 + 2 x1 - x2 <= 0 and -x0 + 3 x1 <= 1: after two turns the columns are out
+-- 3 x1 + x2 under -2 x0 + 2 x1 - x2 <= 0 and -x0 + 3 x1 <= 1: after two pivots the columns are out
 -- of order, and the first of them below 0 is not that of the smallest variable
 abbrev pub out_of_order : LinearProgram
 out_of_order =

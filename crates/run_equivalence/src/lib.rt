@@ -2,7 +2,7 @@
 //! definition, and that it ends as the run over fractions does.
 //!
 //! Both tables keep just the columns of the variables that are not basic, in the same order, so a
-//! line of whole numbers is read place by place. There is no code here: each law is the contract of
+//! row of whole numbers is read place by place. There is no code here: each law is the contract of
 //! a function that does nothing.
 #![tactic(auto)]
 

@@ -1,5 +1,5 @@
 //! What the definition of the run over rows of whole numbers implies.
-ghost use Rattle.run_equivalence.specs.WholeLaws.{BoundsInUse, ClearedLinesFit, ContentInOrder, CrossProductsFit, EitherWayTheSame, LinesFit, NoStepMisfits, NumbersBetweenFit, ProductsFit, QuotientsFit, RunsAgree, SizesBound, SizesLeast, StepsWithinRoom, SumsFit, TablesAgree, TablesStand, TurnsAgree, WholeRunsEnd};
+ghost use Rattle.run_equivalence.specs.WholeLaws.{BoundsInUse, EliminatedRowsFit, ContentInOrder, CrossProductsFit, EitherWayTheSame, IntegerRowsFit, NoStepMisfits, NumbersBetweenFit, ProductsFit, QuotientsFit, RunsAgree, SizesBound, SizesLeast, StepsWithinRoom, SumsFit, TablesAgree, TablesStand, PivotsAgree, WholeRunsEnd};
 ghost use Rattle.run_equivalence.specs.WorkedWhole.{WholeProgramsEnd};
 
 /// A step on fractions that stand for whole numbers fits where those, and what is made of them, do.
@@ -9,28 +9,28 @@ pub fn steps_fit()
     ensures quotients { QuotientsFit }
 {}
 
-/// The numbers between the steps of a turn are as wide as the limit at most.
+/// The numbers between the steps of a pivot are as wide as the limit at most.
 pub fn numbers_between_fit()
     ensures lines { NumbersBetweenFit }
     ensures room { StepsWithinRoom }
     ensures cross_products { CrossProductsFit }
 {}
 
-/// A line is within its size, and within each bound that the size is not above.
-pub fn line_sizes()
+/// A row is within its size, and within each bound that the size is not above.
+pub fn row_sizes()
     ensures bound { SizesBound }
     ensures least { SizesLeast }
 {}
 
-/// What a line has in common may be found number after number.
+/// What a row has in common may be found number after number.
 pub fn content_in_order()
     ensures { ContentInOrder }
 {}
 
-/// From a table within the limit, of which each step of the turn is, a turn over fractions meets no
-/// misfit, and is the turn over whole numbers.
-pub fn turns_agree()
-    ensures { TurnsAgree }
+/// From a table within the limit, of which each step of the pivot is, a pivot over fractions meets no
+/// misfit, and is the pivot over whole numbers.
+pub fn pivots_agree()
+    ensures { PivotsAgree }
 {}
 
 /// Each table of the run is, as fractions, that of the run over fractions: with the same limit, and
@@ -71,8 +71,8 @@ pub fn either_way_the_same()
     ensures { EitherWayTheSame }
 {}
 
-/// The lines that a turn mixes are within the same bounds, and what it leaves is within the limit.
-pub fn lines_fit()
-    ensures mixed { LinesFit }
-    ensures cleared { ClearedLinesFit }
+/// The rows that a pivot mixes are within the same bounds, and what it leaves is within the limit.
+pub fn integer_rows_fit()
+    ensures mixed { IntegerRowsFit }
+    ensures eliminated { EliminatedRowsFit }
 {}

@@ -12,10 +12,10 @@ use Rattle.exact_num.specs.Tests.{is_above_zero}
 use Rattle.frac.specs.Range.{limit as largest}
 use Rattle.simplex_run.specs.Choice.{Ratio, Column, entering, least, ratio_in, ratios}
 use Rattle.simplex_run.specs.Ending.{unbounded, wide_at, no_unit_left}
-use Rattle.simplex_run.specs.Pivot.{Stop, stop_of, beside, steps_of, told, divided, cleared, less_product, after_pivot, row_after, rows_after}
+use Rattle.simplex_run.specs.Pivot.{Stop, stop_of, beside, steps_of, told, divided, eliminated, less_product, after_pivot, row_after, rows_after}
 use Rattle.simplex_run.specs.Places.{at, fraction_zero}
 use Rattle.simplex_run.specs.Program.{LinearProgram, row}
-use Rattle.simplex_run.specs.Run.{Optimum, optimum, Turn, moved, unlimited, stopped, direction, leave, moved_or_stopped, on_entering, on_ratios, on_turn, price_of, read_off, run, run_from, turn}
+use Rattle.simplex_run.specs.Run.{Optimum, optimum, PivotEnd, moved, unlimited, stopped, direction, leave, moved_or_stopped, on_entering, on_ratios, on_pivot, reduced_cost_of, read_off, run, run_from, pivoted}
 use Rattle.simplex_run.specs.Table.{Row, Table, label_at, with_right, entries_at, basic_at, no_entry, first_row, first_table, right_side, row_of, where_basic}
 use Rattle.simplex_run.proofs.Choices.{least_limits}
 use Rattle.simplex_run.proofs.Entries.{entry_has}
@@ -70,8 +70,8 @@ divided_has c labels xs are some =
     told_has (λ k. div_of largest (at (set xs c (whole (pos 1))) k) (at xs c))
     (λ k. div_has (at (set xs c (whole (pos 1))) k) (at xs c) (set_value xs c (whole (pos 1)) (whole_value (pos 1) (omega arith)) are k) (at_value xs c are) some) labels
 
-cleared_has : (c : ℕ) (labels : List ℕ) (pivot xs : List Fraction) → AreValues pivot → AreValues xs → Has AreValues (cleared largest c labels pivot xs)
-unfolding cleared
+cleared_has : (c : ℕ) (labels : List ℕ) (pivot xs : List Fraction) → AreValues pivot → AreValues xs → Has AreValues (eliminated largest c labels pivot xs)
+unfolding eliminated
 cleared_has c labels pivot xs also are =
     let x : ℕ → Fraction = at (set xs c fraction_zero) in
     told_has (λ k. less_product largest (at xs c) (x k) (at pivot k))
@@ -88,9 +88,9 @@ pub record HasEntries (t : Table) : Type 0 where
 row_after_has : (c : ℕ) (labels : List ℕ) (e r : ℕ) (pivot : List Fraction) (i : ℕ) (row : Row) → AreValues pivot → IsRowOf row → Has IsRowOf (row_after largest c labels e r pivot i row)
 row_after_has c labels e r pivot i row also are = by (nat_eq i r)
   where
-    by : (b : Bool) → Has IsRowOf (if b then Ok (row_of e pivot) else after (cleared largest c labels pivot row.entries) (λ es. Ok (row_of row.basic es)))
+    by : (b : Bool) → Has IsRowOf (if b then Ok (row_of e pivot) else after (eliminated largest c labels pivot row.entries) (λ es. Ok (row_of row.basic es)))
     by true = also
-    by false = after_has AreValues IsRowOf (cleared largest c labels pivot row.entries) (λ es. Ok (row_of row.basic es)) (cleared_has c labels pivot row.entries also are) (λ es vs. vs)
+    by false = after_has AreValues IsRowOf (eliminated largest c labels pivot row.entries) (λ es. Ok (row_of row.basic es)) (cleared_has c labels pivot row.entries also are) (λ es vs. vs)
 
 rows_after_has : (c : ℕ) (labels : List ℕ) (e r : ℕ) (pivot : List Fraction) (i : ℕ) (rows : List Row) → AreValues pivot → All IsRowOf rows → Has (All IsRowOf) (rows_after largest c labels e r pivot i rows)
 unfolding rows_after
@@ -112,10 +112,10 @@ pivoted_has c r t has some =
     let e = label_at t.labels c in
     after_has AreValues HasEntries (divided largest c labels (entries_at t.rows r)) _ (divided_has c labels (entries_at t.rows r) (entries_are t.rows r has.rows) some)
     (λ pivot p. after_has (All IsRowOf) HasEntries (rows_after largest c labels e r pivot 0 t.rows) _ (rows_after_has c labels e r pivot 0 t.rows p has.rows)
-    (λ rows rs. after_has AreValues HasEntries (cleared largest c labels pivot t.objective) _ (cleared_has c labels pivot t.objective p has.objective)
+    (λ rows rs. after_has AreValues HasEntries (eliminated largest c labels pivot t.objective) _ (cleared_has c labels pivot t.objective p has.objective)
     (λ objective o. record { rows = rs; objective = o })))
 
--- ---- a turn
+-- ---- a pivoted
 above_some : (z : ℤ) → pos 0 <ℤ z → z ≢ pos 0
 above_some z above none = let moved : pos 0 <ℤ pos 0 = subst (λ w. pos 0 <ℤ w) none above in omega (arith, ints, moved)
 
@@ -137,13 +137,13 @@ ratios_has columns e i (row ∷ rows) are =
     after_has Nothing Nothing (ratio_in largest columns e row.entries) _ (ratio_has columns e row.entries (All-head IsRowOf row rows are))
     (λ q h. after_has Nothing Nothing (ratios largest columns e (i + 1) rows) _ (ratios_has columns e (i + 1) rows (All-tail IsRowOf row rows are)) (λ qs hs. tt))
 
-abbrev Turns : Turn → Type 0
+abbrev Turns : PivotEnd → Type 0
 Turns (moved t) = HasEntries t
 Turns unlimited = Unit {0}
 Turns (stopped w) = AreOperands w
 
-turn_has : (e : ℕ) (t : Table) → HasEntries t → Turns (turn largest e t)
-unfolding turn
+turn_has : (e : ℕ) (t : Table) → HasEntries t → Turns (pivoted largest e t)
+unfolding pivoted
 turn_has e t has = by (ratios largest (length t.labels) e 0 t.rows) refl (ratios_has (length t.labels) e 0 t.rows has.rows)
   where
     pivots : (r : Result Table Wide) → Has HasEntries r → Turns (moved_or_stopped r)
@@ -178,7 +178,7 @@ unfolding read_off
 read_has n m t spent has =
     let w = length t.labels in
     let solved = listed_all IsValue _ (λ j. basic_value (λ row. right_side w row.entries) j t.rows (λ row are. at_value row.entries w are) has.rows) 0 n in
-    let prices = listed_all IsValue (price_of t) (λ j. entry_has IsValue no_entry (with_right t.columns t.labels) t.objective j zero_value (λ k. at_value t.objective k has.objective)) in
+    let prices = listed_all IsValue (reduced_cost_of t) (λ j. entry_has IsValue no_entry (with_right t.columns t.labels) t.objective j zero_value (λ k. at_value t.objective k has.objective)) in
     (solved, prices n m, prices 0 n, at_value t.objective w has.objective)
 
 -- ---- the run
@@ -191,16 +191,16 @@ run_from_has n m zero spent t has = by (entering t)
     by (Some c) = tt
 run_from_has n m (suc left) spent t has = by (entering t) (λ u h. run_from_has n m left (spent + 1) u h)
   where
-    act : (c : Column) (w : Turn) → Turns w → ((u : Table) → HasEntries u → Ends IsOptimumOf (run_from largest n m left (spent + 1) u))
-        → Ends IsOptimumOf (on_turn w (λ next. run_from largest n m left (spent + 1) next) (unbounded (direction n c t) (spent + 1)) (λ w. wide_at (spent + 1) w))
+    act : (c : Column) (w : PivotEnd) → Turns w → ((u : Table) → HasEntries u → Ends IsOptimumOf (run_from largest n m left (spent + 1) u))
+        → Ends IsOptimumOf (on_pivot w (λ next. run_from largest n m left (spent + 1) next) (unbounded (direction n c t) (spent + 1)) (λ w. wide_at (spent + 1) w))
     act c (moved u) h later = later u h
     act c unlimited h later = tt
     act c (stopped w) h later = h
 
     by : (o : Option Column) → ((u : Table) → HasEntries u → Ends IsOptimumOf (run_from largest n m left (spent + 1) u))
-        → Ends IsOptimumOf (on_entering o (read_off n m t spent) (λ c. on_turn (turn largest c.place t) (λ next. run_from largest n m left (spent + 1) next) (unbounded (direction n c t) (spent + 1)) (λ w. wide_at (spent + 1) w)))
+        → Ends IsOptimumOf (on_entering o (read_off n m t spent) (λ c. on_pivot (pivoted largest c.place t) (λ next. run_from largest n m left (spent + 1) next) (unbounded (direction n c t) (spent + 1)) (λ w. wide_at (spent + 1) w)))
     by None later = read_has n m t spent has
-    by (Some c) later = act c (turn largest c.place t) (turn_has c.place t has) later
+    by (Some c) later = act c (pivoted largest c.place t) (turn_has c.place t has) later
 
 -- ---- the first table
 first_row_of : (p : LinearProgram) (i : ℕ) → HasValues p → IsRowOf (first_row p i)

@@ -9,7 +9,7 @@ use Rattle.clearing_model.specs.Certificate.{Point}
 use Rattle.clearing_model.specs.Written.{PlacedMultiplier, WrittenTree, Ends as EndsTree, Parts}
 use Rattle.simplex_run.specs.Ending.{Ending, EndsBy}
 use Rattle.master_program.specs.Reading.{Reading}
-use Rattle.constraint_generation.specs.Run.{Solution, WrittenCover, by_line, by_tree}
+use Rattle.constraint_generation.specs.Run.{CoveredReading, WrittenCover, by_line, by_tree}
 
 -- in lowest terms, with both parts at most 2^127 - 1
 pub record IsValue (x : Fraction) : Type 0 where
@@ -66,5 +66,5 @@ abbrev pub IsCoverOf : WrittenCover → Type 0
 IsCoverOf by_line = Unit {0}
 IsCoverOf (by_tree tree) = IsTreeOf 1024 tree
 
-abbrev pub IsSolutionOf : Solution → Type 0
+abbrev pub IsSolutionOf : CoveredReading → Type 0
 IsSolutionOf s = IsReadingOf s.0 × IsCoverOf s.1

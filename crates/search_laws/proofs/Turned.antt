@@ -1,4 +1,4 @@
--- Each turn makes at most one more slack a variable that is not basic, and only those have a dual
+-- Each pivoted makes at most one more slack a variable that is not basic, and only those have a dual
 -- value above 0.
 use Rattle.std.proofs.Common.{◌≡◌, ℕ, zero, suc, ◌+◌, ◌-◌, ◌≤◌, ◌<◌, List, [], ◌∷◌, length, take, arith, refl, sym, ◌∙◌, ap, subst, pos, Bool, true, false, nat_eq}
 use Rattle.std.specs.Prelude.{Option, Some, None, if◌then◌else◌}
@@ -15,15 +15,15 @@ use Rattle.simplex_run.specs.Program.{LinearProgram}
 use Rattle.simplex_run.specs.Table.{Table, with_right, basic_at, no_entry, first_table, right_side}
 use Rattle.simplex_run.specs.Choice.{Column, entering, least}
 use Rattle.simplex_run.specs.Ending.{unbounded, wide_at, no_unit_left}
-use Rattle.simplex_run.specs.Run.{Turn, moved, unlimited, stopped, turn, on_turn, on_entering, price_of, dual, direction, read_off, run_from, run}
+use Rattle.simplex_run.specs.Run.{PivotEnd, moved, unlimited, stopped, pivoted, on_pivot, on_entering, reduced_cost_of, dual, direction, read_off, run_from, run}
 use Rattle.simplex_run.specs.Optimum.{IsProgram}
 use Rattle.simplex_run.specs.Tableau.{tableau_of}
 use Rattle.simplex_run.proofs.Bland.{IsIn}
-use Rattle.simplex_run.proofs.Choices.{moved_out, bland_turn}
+use Rattle.simplex_run.proofs.Choices.{moved_out, bland_pivot}
 use Rattle.simplex_run.proofs.Entries.{entry_has}
 use Rattle.simplex_run.proofs.FirstTable.{basic_first, first_value}
 use Rattle.simplex_run.proofs.Listed.{listed_count, listed_from}
-use Rattle.simplex_run.proofs.Optima.{Keeps, keeps_first, keeps_turn, above_apart}
+use Rattle.simplex_run.proofs.Optima.{Keeps, keeps_first, keeps_pivot, above_apart}
 use Rattle.search_laws.specs.Sizes.{one_if, count_above, IsTurned, RunsAreTurned}
 
 -- ---- sets of numbers, by their tests
@@ -74,7 +74,7 @@ above_marked (suc n) (f ∷ fs) s h =
 zero_is_not_above : (x : Fraction) → IsLowest x → value x ≡ 0Q → is_above_zero x ≡ true → ⊥
 zero_is_not_above x low e above = above_apart x.numerator (int_lt-yes (pos 0) x.numerator above) (subst (λ (f : Fraction). f.numerator ≡ pos 0) (value_of_lowest x low) (zero_has (value x) e))
 
--- ---- what each turn keeps
+-- ---- what each pivoted keeps
 -- after so many units: a set with at most as many slacks as turns; every other slack is basic
 record Turned (p : LinearProgram) (start units : ℕ) (t : Table) : Type 0 where
   keeps : Keeps p t
@@ -112,18 +112,18 @@ mark_out n leaves i marks h = by (nat_eq (n + i) leaves) refl h
     by true e h = cc
     by false e h = (h, λ same. grind (arith, nat_tests))
 
-next_turned : (limit : ℕ) (p : LinearProgram) (start units : ℕ) (t u : Table) (c : Column) → Turned p start units t → entering t ≡ Some c → turn limit c.place t ≡ moved u → Turned p start (units + 1) u
+next_turned : (limit : ℕ) (p : LinearProgram) (start units : ℕ) (t u : Table) (c : Column) → Turned p start units t → entering t ≡ Some c → pivoted limit c.place t ≡ moved u → Turned p start (units + 1) u
 next_turned limit p start units t u c h enters turns =
     let m = p.rows in
     let k = h.keeps in
     let w = moved_out limit c.place t u turns in
     let r = (least w.0 w.1).place in
-    let after = (bland_turn limit p.variables m t u c w.0 w.1 k.table enters w.2 w.3).1.turn in
+    let after = (bland_pivot limit p.variables m t u c w.0 w.1 k.table enters w.2 w.3).1.pivoted in
     let leaves = basic_at t.rows r in
     let marks = with_mark p.variables leaves h.marks in
     let more : marked m marks ≤ marked m h.marks + 1 = marked_more m (leaves - p.variables) marks h.marks (λ i is ne. mark_in p.variables leaves i h.marks is ne) in
     record {
-      keeps = keeps_turn p limit t u c k enters turns;
+      keeps = keeps_pivot p limit t u c k enters turns;
       marks = marks;
       few = omega (arith, h.few, more);
       basic = λ i lt none.
@@ -137,17 +137,17 @@ next_turned limit p start units t u c h enters turns =
 dual_few : (p : LinearProgram) (start units : ℕ) (t : Table) → Turned p start units t → start + count_above (dual p.variables p.rows t) ≤ units
 dual_few p start units t h =
     let slacks : List Fraction = dual p.variables p.rows t in
-    let all : take p.rows slacks ≡ slacks = take_all p.rows slacks (omega (arith, listed_count (price_of t) p.variables p.rows)) in
+    let all : take p.rows slacks ≡ slacks = take_all p.rows slacks (omega (arith, listed_count (reduced_cost_of t) p.variables p.rows)) in
     subst (λ (fs : List Fraction). start + count_above fs ≤ units) all (omega (arith, h.few, above_marked p.rows slacks h.marks (λ i lt above. by i lt above (h.marks i) refl)))
   where
     by : (i : ℕ) → i < p.rows → is_above_zero (at (dual p.variables p.rows t) i) ≡ true → (b : Bool) → h.marks i ≡ b → h.marks i ≡ true
     by i lt above true e = e
     by i lt above false e =
         let is = h.basic i lt e in
-        let x = price_of t (p.variables + i) in
+        let x = reduced_cost_of t (p.variables + i) in
         let zero : value x ≡ 0Q = ap (tableau_of t).price (sym is.2) ∙ h.keeps.good.priced is.0 is.1 in
         let low = entry_has IsLowest no_entry (with_right t.columns t.labels) t.objective (p.variables + i) (whole_is_lowest (pos 0)) h.keeps.table.lowest_price in
-        absurd (zero_is_not_above x low zero (subst (λ (f : Fraction). is_above_zero f ≡ true) (listed_from (price_of t) p.variables p.rows i lt) above))
+        absurd (zero_is_not_above x low zero (subst (λ (f : Fraction). is_above_zero f ≡ true) (listed_from (reduced_cost_of t) p.variables p.rows i lt) above))
 
 read_turned : (p : LinearProgram) (start units : ℕ) (t : Table) → Turned p start units t → IsTurned start (read_off p.variables p.rows t units)
 unfolding read_off
@@ -168,16 +168,16 @@ from_turned limit p start (suc left) units t h = step (entering t) refl (λ u k.
     m : ℕ
     m = p.rows
 
-    act : (c : Column) → entering t ≡ Some c → ((u : Table) → Turned p start (units + 1) u → IsTurned start (run_from limit n m left (units + 1) u)) → (w : Turn) → turn limit c.place t ≡ w
-        → IsTurned start (on_turn w (λ next. run_from limit n m left (units + 1) next) (unbounded (direction n c t) (units + 1)) (λ w. wide_at (units + 1) w))
+    act : (c : Column) → entering t ≡ Some c → ((u : Table) → Turned p start (units + 1) u → IsTurned start (run_from limit n m left (units + 1) u)) → (w : PivotEnd) → pivoted limit c.place t ≡ w
+        → IsTurned start (on_pivot w (λ next. run_from limit n m left (units + 1) next) (unbounded (direction n c t) (units + 1)) (λ w. wide_at (units + 1) w))
     act c enters later (moved u) turns = later u (next_turned limit p start units t u c h enters turns)
     act c enters later unlimited turns = tt
     act c enters later (stopped w) turns = tt
 
     step : (o : Option Column) → entering t ≡ o → ((u : Table) → Turned p start (units + 1) u → IsTurned start (run_from limit n m left (units + 1) u))
-        → IsTurned start (on_entering o (read_off n m t units) (λ c. on_turn (turn limit c.place t) (λ next. run_from limit n m left (units + 1) next) (unbounded (direction n c t) (units + 1)) (λ w. wide_at (units + 1) w)))
+        → IsTurned start (on_entering o (read_off n m t units) (λ c. on_pivot (pivoted limit c.place t) (λ next. run_from limit n m left (units + 1) next) (unbounded (direction n c t) (units + 1)) (λ w. wide_at (units + 1) w)))
     step None enters later = read_turned p start units t h
-    step (Some c) enters later = act c enters later (turn limit c.place t) refl
+    step (Some c) enters later = act c enters later (pivoted limit c.place t) refl
 
 pub runs_are_turned : RunsAreTurned
 unfolding run

@@ -6,7 +6,7 @@ use Rattle.exact_num.specs.declared.misfit.Wide.{Wide}
 use Rattle.simplex_run.specs.Ending.{wide_at, no_unit_left, unbounded}
 use Rattle.simplex_run.specs.Table.{Table}
 use Rattle.simplex_run.specs.Choice.{Column, entering}
-use Rattle.simplex_run.specs.Run.{turn, moved, unlimited, stopped}
+use Rattle.simplex_run.specs.Run.{pivoted, moved, unlimited, stopped}
 use Rattle.simplex_run.specs.Run.{read_off, direction, run_from}
 
 pub run_ends : (limit n m left spent : ℕ) (c : Table) → entering c ≡ None → run_from limit n m left spent c ≡ read_off n m c spent
@@ -19,17 +19,17 @@ unfolding run_from
 run_is_out limit n m zero spent c e h z = rw h refl
 run_is_out limit n m (suc left) spent c e h z = absurd (omega arith)
 
-pub run_moves : (limit n m left spent : ℕ) (c next : Table) (e : Column) → entering c ≡ Some e → turn limit e.place c ≡ moved next → 0 < left → run_from limit n m left spent c ≡ run_from limit n m (left - 1) (spent + 1) next
+pub run_moves : (limit n m left spent : ℕ) (c next : Table) (e : Column) → entering c ≡ Some e → pivoted limit e.place c ≡ moved next → 0 < left → run_from limit n m left spent c ≡ run_from limit n m (left - 1) (spent + 1) next
 unfolding run_from
 run_moves limit n m zero spent c next e h k p = absurd (omega arith)
 run_moves limit n m (suc left) spent c next e h k p = let less : suc left - 1 ≡ left = omega arith in rw (h, k, less) refl
 
-pub run_is_unbounded : (limit n m left spent : ℕ) (c : Table) (e : Column) → entering c ≡ Some e → turn limit e.place c ≡ unlimited → 0 < left → run_from limit n m left spent c ≡ unbounded (direction n e c) (spent + 1)
+pub run_is_unbounded : (limit n m left spent : ℕ) (c : Table) (e : Column) → entering c ≡ Some e → pivoted limit e.place c ≡ unlimited → 0 < left → run_from limit n m left spent c ≡ unbounded (direction n e c) (spent + 1)
 unfolding run_from
 run_is_unbounded limit n m zero spent c e h k p = absurd (omega arith)
 run_is_unbounded limit n m (suc left) spent c e h k p = rw (h, k) refl
 
-pub run_misfits : (limit n m left spent : ℕ) (c : Table) (e : Column) (w : Wide) → entering c ≡ Some e → turn limit e.place c ≡ stopped w → 0 < left → run_from limit n m left spent c ≡ wide_at (spent + 1) w
+pub run_misfits : (limit n m left spent : ℕ) (c : Table) (e : Column) (w : Wide) → entering c ≡ Some e → pivoted limit e.place c ≡ stopped w → 0 < left → run_from limit n m left spent c ≡ wide_at (spent + 1) w
 unfolding run_from
 run_misfits limit n m zero spent c e w h k p = absurd (omega arith)
 run_misfits limit n m (suc left) spent c e w h k p = rw (h, k) refl

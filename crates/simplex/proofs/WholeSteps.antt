@@ -1,14 +1,14 @@
 -- One step of the run over rows of whole numbers, and from that run to the run over fractions.
 use Rattle.std.proofs.Common.{◌≡◌, ℕ, zero, suc, ◌+◌, ◌-◌, ◌<◌, length, refl, sym, ◌∙◌, ap, subst, arith, true}
-use Rattle.std.specs.Prelude.{Some, None}
+use Rattle.std.specs.Prelude.{Some, None, Err}
 use Rattle.simplex_run.specs.Program.{LinearProgram}
 use Rattle.simplex_run.specs.Optimum.{IsProgram}
 use Rattle.simplex_run.specs.Table.{first_table}
 use Rattle.simplex_run.specs.Ending.{Ending, no_unit_left, unbounded, done}
 use Rattle.simplex_run.specs.Run.{Optimum, run}
-use Rattle.run_equivalence.specs.Lines.{LineTable, rows_fit}
+use Rattle.run_equivalence.specs.IntegerRows.{IntegerTable, rows_fit}
 use Rattle.simplex_run.specs.Choice.{Column}
-use Rattle.run_equivalence.specs.WholeTurning.{whole_entering, whole_turn, turn_fits}
+use Rattle.run_equivalence.specs.WholePivoting.{whole_entering, whole_pivot, pivot_fits}
 use Rattle.run_equivalence.specs.WholeRunning.{whole_read_off, whole_direction, whole_run_from, whole_run, first_whole_table}
 use Rattle.run_equivalence.proofs.RunSteps.{runs_agree}
 use Rattle.integer_tableau.specs.declared.table.WholeTable.{WholeTable}
@@ -21,47 +21,47 @@ use Rattle.fraction_tableau.specs.declared.table.Table.{Table}
 use Rattle.simplex_run.proofs.Listed.{listed_count}
 use Rattle.exact_num.specs.Fraction.{Fraction}
 use Rattle.simplex_run.specs.Units.{units_of}
-use Rattle.simplex.specs.Spaces.{answer_of, contents_after, whole_optimum_in}
-use Rattle.simplex.specs.Attempts.{IsStageOf, EndsInStop}
+use Rattle.simplex.specs.Spaces.{EndsAs, answer_of, contents_after, stopped, whole_optimum_in}
+use Rattle.simplex.specs.Attempts.{IsStageOf}
 use Rattle.simplex.specs.WholeEnds.{IsWholeEnd}
 use Rattle.simplex.specs.declared.whole_run.WholeEnd.TheVariants.{Optimal as WholeOptimum, Unbounded as WholeRay, NoUnit}
 use Rattle.simplex.specs.declared.stage.Stage.TheVariants.{WholeOptimal, WholeUnbounded}
 use Rattle.simplex.specs.declared.stop.RunStop.TheVariants.{Budget as RunBudget}
 
-pub whole_ends : (limit n m left spent : ℕ) (t : LineTable) → whole_entering t ≡ None → whole_run_from limit n m left spent t ≡ Some (whole_read_off n m t spent)
+pub whole_ends : (limit n m left spent : ℕ) (t : IntegerTable) → whole_entering t ≡ None → whole_run_from limit n m left spent t ≡ Some (whole_read_off n m t spent)
 unfolding whole_run_from
 whole_ends limit n m zero spent t h = rw h refl
 whole_ends limit n m (suc left) spent t h = rw h refl
 
-pub whole_out : (limit n m left spent : ℕ) (t : LineTable) (c : Column) → whole_entering t ≡ Some c → left ≡ 0 → whole_run_from limit n m left spent t ≡ Some (no_unit_left spent)
+pub whole_out : (limit n m left spent : ℕ) (t : IntegerTable) (c : Column) → whole_entering t ≡ Some c → left ≡ 0 → whole_run_from limit n m left spent t ≡ Some (no_unit_left spent)
 unfolding whole_run_from
 whole_out limit n m zero spent t c h z = rw h refl
 whole_out limit n m (suc left) spent t c h z = absurd (omega (arith, z))
 
-pub whole_moves : (limit n m left spent : ℕ) (t next : LineTable) (c : Column) → whole_entering t ≡ Some c → whole_turn c.place t ≡ Some next → turn_fits limit c.place t ≡ true → rows_fit limit next.rows ≡ true → 0 < left
+pub whole_moves : (limit n m left spent : ℕ) (t next : IntegerTable) (c : Column) → whole_entering t ≡ Some c → whole_pivot c.place t ≡ Some next → pivot_fits limit c.place t ≡ true → rows_fit limit next.rows ≡ true → 0 < left
     → whole_run_from limit n m left spent t ≡ whole_run_from limit n m (left - 1) (spent + 1) next
 unfolding whole_run_from
 whole_moves limit n m zero spent t next c h k o f p = absurd (omega (arith, p))
 whole_moves limit n m (suc left) spent t next c h k o f p = let less : suc left - 1 ≡ left = omega arith in rw (h, k, o, f, less) refl
 
-pub whole_unlimited : (limit n m left spent : ℕ) (t : LineTable) (c : Column) → whole_entering t ≡ Some c → whole_turn c.place t ≡ None → 0 < left
+pub whole_unlimited : (limit n m left spent : ℕ) (t : IntegerTable) (c : Column) → whole_entering t ≡ Some c → whole_pivot c.place t ≡ None → 0 < left
     → whole_run_from limit n m left spent t ≡ Some (unbounded (whole_direction n c t) (spent + 1))
 unfolding whole_run_from
 whole_unlimited limit n m zero spent t c h k p = absurd (omega (arith, p))
 whole_unlimited limit n m (suc left) spent t c h k p = rw (h, k) refl
 
-pub whole_found_is : (n m spent : ℕ) (t : LineTable) → length t.labels ≡ n → whole_read_off n m t spent ≡ done (whole_optimum_in n m t) spent
+pub whole_found_is : (n m spent : ℕ) (t : IntegerTable) → length t.labels ≡ n → whole_read_off n m t spent ≡ done (whole_optimum_in n m t) spent
 unfolding whole_read_off
 whole_found_is n m spent t e = refl
 
 -- ---- the run of the program
-started : (limit left spent : ℕ) (p : LinearProgram) (t : LineTable) → t ≡ first_whole_table p → rows_fit limit t.rows ≡ true → whole_run limit p left spent ≡ whole_run_from limit p.variables p.rows left spent t
+started : (limit left spent : ℕ) (p : LinearProgram) (t : IntegerTable) → t ≡ first_whole_table p → rows_fit limit t.rows ≡ true → whole_run limit p left spent ≡ whole_run_from limit p.variables p.rows left spent t
 unfolding whole_run
 started limit left spent p t first fits =
-    let test : rows_fit limit (first_whole_table p).rows ≡ true = ap (λ (u : LineTable). rows_fit limit u.rows) (sym first) ∙ fits in
+    let test : rows_fit limit (first_whole_table p).rows ≡ true = ap (λ (u : IntegerTable). rows_fit limit u.rows) (sym first) ∙ fits in
     rw test (ap (whole_run_from limit p.variables p.rows left spent) (sym first))
 
-pub whole_is_run : (limit left spent : ℕ) (p : LinearProgram) (t : LineTable) (E : Ending Optimum) → IsProgram p → t ≡ first_whole_table p → rows_fit limit t.rows ≡ true
+pub whole_is_run : (limit left spent : ℕ) (p : LinearProgram) (t : IntegerTable) (E : Ending Optimum) → IsProgram p → t ≡ first_whole_table p → rows_fit limit t.rows ≡ true
     → whole_run_from limit p.variables p.rows left spent t ≡ Some E → run limit p left spent ≡ E
 whole_is_run limit left spent p t E g first fits h = runs_agree limit p left spent E g (started limit left spent p t first fits ∙ h)
 
@@ -94,11 +94,11 @@ module _ {A : Type 0} (value : A → Fraction) (limit held left spent after : �
   there h = subst (λ (l : ℕ). IsWithin l w2) same h
 
   variables : length w2.labels.items ≡ p.variables
-  variables = shape.columns ∙ ap (λ (x : LineTable). length x.labels) g.first ∙ first_labels p
+  variables = shape.columns ∙ ap (λ (x : IntegerTable). length x.labels) g.first ∙ first_labels p
 
   rows : length w2.basics.items ≡ p.rows
   rows =
-      let columns = ap (λ (x : LineTable). x.columns) g.first ∙ first_columns p in
+      let columns = ap (λ (x : IntegerTable). x.columns) g.first ∙ first_columns p in
       let labels = sym shape.columns ∙ variables in
       let many = shape.rows in
       omega (arith, columns, labels, many)
@@ -130,7 +130,7 @@ module _ {A : Type 0} (value : A → Fraction) (limit held left spent after : �
       }
 
   pub whole_no_unit : IsWholeEnd held p.variables p.rows NoUnit after w2 (whole_run_from held p.variables p.rows left spent (as_whole w1))
-      → EndsInStop (run limit p left spent) RunBudget after
+      → EndsAs (run limit p left spent) (Err RunBudget) stopped after
   whole_no_unit h =
       let e : no_unit_left after ≡ run limit p left spent = sym (is_run _ h) in
       record { answer = ap answer_of e; contents = ap contents_after e; units = ap units_of e }

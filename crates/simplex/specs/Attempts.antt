@@ -10,7 +10,7 @@ use Rattle.integer_tableau.specs.declared.table.WholeTable.{WholeTable}
 use Rattle.simplex.specs.declared.stage.Stage.{Stage}
 use Rattle.simplex.specs.declared.stage.Stage.TheVariants.{Empty, Given, Optimal, Unbounded, WholeOptimal, WholeUnbounded, Stopped}
 use Rattle.simplex.specs.declared.stop.RunStop.{RunStop}
-use Rattle.simplex.specs.Spaces.{contents_of, answer_of, contents_after, IsAt, stopped}
+use Rattle.simplex.specs.Spaces.{contents_of, answer_of, contents_after, EndsAs, IsAt, stopped}
 
 -- whether an optimum stands there
 abbrev pub is_optimum : Stage → Bool
@@ -29,14 +29,9 @@ pub record IsStageOf {A : Type 0} (value : A → Fraction) (limit : ℕ) (p : Li
   pub units : spent ≡ units_of run
   pub there : IsAt limit stage p t w
 
-pub record EndsInStop (run : Ending Optimum) (stop : RunStop) (spent : ℕ) : Type 0 where
-  pub answer : Err stop ≡ answer_of run
-  pub contents : stopped ≡ contents_after run
-  pub units : spent ≡ units_of run
-
 abbrev pub IsEndOf : {A : Type 0} → (A → Fraction) → ℕ → LinearProgram → Ending Optimum → Result Stage RunStop → ℕ → Table A → WholeTable → Type 0
 IsEndOf value limit p run (Ok stage) spent t w = IsStageOf value limit p run stage spent t w
-IsEndOf value limit p run (Err stop) spent t w = EndsInStop run stop spent
+IsEndOf value limit p run (Err stop) spent t w = EndsAs run (Err stop) stopped spent
 
 -- the same, where it was not given up
 abbrev pub IsTried : {A : Type 0} → (A → Fraction) → ℕ → LinearProgram → Ending Optimum → Option (Result Stage RunStop) → ℕ → Table A → WholeTable → Type 0

@@ -1,7 +1,5 @@
 pub mod Stops
-pub mod Programs
 pub mod Ends
 pub mod Spaces
-pub mod Answers
 pub mod WholeEnds
 pub mod Attempts

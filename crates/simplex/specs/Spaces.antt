@@ -7,6 +7,7 @@ use Rattle.simplex_run.specs.Ending.{Ending, done, unbounded, wide_at, no_unit_l
 use Rattle.simplex_run.specs.Optimum.{IsProgram}
 use Rattle.simplex_run.specs.Table.{Table as TableOf}
 use Rattle.simplex_run.specs.Run.{Optimum, optimum, solution, dual, reduced_costs, value_of as value_in, direction}
+use Rattle.simplex_run.specs.Units.{units_of}
 use Rattle.fraction_tableau.specs.declared.table.Table.{Table}
 use Rattle.fraction_tableau.specs.Programs.{empty_program}
 use Rattle.fraction_tableau.specs.Tables.{as_table, room_of}
@@ -16,8 +17,8 @@ use Rattle.simplex.specs.declared.stop.RunStop.{RunStop}
 use Rattle.simplex.specs.declared.stop.RunStop.TheVariants.{Wide, Budget}
 use Rattle.simplex.specs.declared.stage.Stage.{Stage}
 use Rattle.simplex.specs.declared.stage.Stage.TheVariants.{Empty, Given, Optimal, Unbounded, WholeOptimal, WholeUnbounded, Stopped}
-use Rattle.run_equivalence.specs.Lines.{entry_of, LineTable}
-use Rattle.run_equivalence.specs.WholeRunning.{whole_price, whole_solution, whole_direction}
+use Rattle.run_equivalence.specs.IntegerRows.{entry_of, IntegerTable}
+use Rattle.run_equivalence.specs.WholeRunning.{whole_reduced_cost, whole_solution, whole_direction}
 use Rattle.integer_tableau.specs.declared.table.WholeTable.{WholeTable}
 use Rattle.fraction_tableau.specs.Labels.{as_column}
 use Rattle.integer_tableau.specs.Tables.{as_whole, IsWithin}
@@ -119,12 +120,18 @@ contents_after (unbounded direction spent) = rising direction
 contents_after (wide_at spent wide) = stopped
 contents_after (no_unit_left spent) = stopped
 
+-- what a run answers, what stands there afterwards and the units spent are those of its end
+pub record EndsAs (run : Ending Optimum) (told : Result Bool RunStop) (there : Contents) (spent : ℕ) : Type 0 where
+  pub answer : told ≡ answer_of run
+  pub contents : there ≡ contents_after run
+  pub units : spent ≡ units_of run
+
 -- ---- what the fields of a space stand for
 abbrev pub optimum_in : ℕ → ℕ → TableOf → Optimum
 optimum_in n m t = optimum (solution n t) (dual n m t) (reduced_costs n t) (value_in t)
 
-abbrev pub whole_optimum_in : ℕ → ℕ → LineTable → Optimum
-whole_optimum_in n m t = optimum (whole_solution n t) (values_at (whole_price t) n m) (values_at (whole_price t) 0 n) (entry_of t.objective (length t.labels))
+abbrev pub whole_optimum_in : ℕ → ℕ → IntegerTable → Optimum
+whole_optimum_in n m t = optimum (whole_solution n t) (values_at (whole_reduced_cost t) n m) (values_at (whole_reduced_cost t) 0 n) (entry_of t.objective (length t.labels))
 
 -- p is the program that is given
 abbrev pub contents_of : {A : Type 0} → (A → Fraction) → Stage → LinearProgram → Table A → WholeTable → Contents

@@ -6,21 +6,13 @@
 
 mod attempt;
 pub mod budget;
-pub mod counting;
 pub mod fill;
-pub mod program;
 mod run;
-pub mod solved;
-pub mod solver;
 pub mod space;
 mod stage;
 pub mod stop;
 mod whole_run;
 
 pub use budget::Budget;
-pub use counting::choices;
-pub use program::Program;
-pub use solved::Solved;
-pub use solver::solve;
 pub use space::Space;
 pub use stop::{RunStop, Stop};

@@ -18,7 +18,7 @@ pub enum End {
     Unbounded { column: Entering },
 }
 
-/// Turns until no column enters, nothing limits the column, a step does not fit or no unit is left.
+/// Pivots until no column enters, nothing limits the column, a step does not fit or no unit is left.
 pub fn run<N: Exact>(table: &mut Table<N>, budget: &mut Budget) -> Result<End, RunStop>
     ensures run { (n m : ℕ)
         → ending_of n m result budget.new.spent (as_table N.fraction table.new)
@@ -35,7 +35,7 @@ pub fn run<N: Exact>(table: &mut Table<N>, budget: &mut Budget) -> Result<End, R
         if !budget.spend() {
             return Err(RunStop::Budget);
         }
-        match table.turn(column.place) {
+        match table.pivot(column.place) {
             Ok(true) => {}
             Ok(false) => return Ok(End::Unbounded { column }),
             Err(wide) => {

@@ -5,7 +5,6 @@ ghost use Rattle.simplex_run.specs.Optimum.{IsAsSaid};
 ghost use Rattle.exact_num.specs.Fraction.{IsNotBelowZero};
 ghost use Rattle.simplex_run.specs.Places.{at};
 ghost use Rattle.simplex_run.specs.Run.{run as run_of};
-ghost use Rattle.simplex_run.specs.Units.{units_of};
 ghost use Rattle.fraction_tableau.specs.Programs.{empty_program, with_row};
 ghost use Rattle.fraction_tableau.specs.declared.limits.TheConstants.{MAX_SIDE};
 
@@ -65,7 +64,7 @@ impl<N: Exact> Model for Space<N> {
 }
 
 impl<N: Exact> Space<N> {
-    ghost use Rattle.simplex.specs.Spaces.{nothing, given, program_given, IsProgramGiven, answer_of, contents_after, IsFound, x_of, y_of, reduced_of, value_of, direction_of};
+    ghost use Rattle.simplex.specs.Spaces.{nothing, given, program_given, IsProgramGiven, EndsAs, IsFound, x_of, y_of, reduced_of, value_of, direction_of};
 
     /// Room for programs of at most so many rows and columns, with no program. The error is want of
     /// memory.
@@ -79,11 +78,7 @@ impl<N: Exact> Space<N> {
     }
 
     /// The same where there may be no row or no column.
-    pub(crate) fn with_room(
-        alloc: Global,
-        rows: usize,
-        columns: usize,
-    ) -> Result<Space<N>, AllocError>
+    pub fn with_room(alloc: Global, rows: usize, columns: usize) -> Result<Space<N>, AllocError>
         requires columns { columns ≤ MAX_SIDE }
         requires numbers { rows * (columns + 1) < 2 ^ 64 }
         ensures sizes { IfOk result (λ space. (space.rows ≡ rows) × (space.columns ≡ columns)) }
@@ -128,7 +123,7 @@ impl<N: Exact> Space<N> {
     }
 
     /// The same where there may be no cost.
-    pub(crate) fn start(&mut self, costs: &[N])
+    pub fn start(&mut self, costs: &[N])
         requires { length costs.now ≤ self.old.columns }
         ensures { self.new ≡ record self.old {
           contents = given (empty_program (map N.fraction costs.now));
@@ -152,7 +147,7 @@ impl<N: Exact> Space<N> {
         self.program.row(a, b);
     }
 
-    /// The run of the program, a unit of the budget a turn: true at an optimum, false where the
+    /// The run of the program, a unit of the budget a pivot: true at an optimum, false where the
     /// objective rises without an end.
     ///
     /// `Wide` comes at the first step of the run that does not fit, `Budget` where the run wants
@@ -160,15 +155,10 @@ impl<N: Exact> Space<N> {
     /// as there are ways to choose the basic variables, `Budget` never comes.
     pub fn run(&mut self, budget: &mut Budget) -> Result<bool, RunStop>
         requires { IsProgramGiven self.old.contents }
-        ensures answer { result ≡ answer_of
+        ensures run { EndsAs
             (run_of (unsigned_abs N.LIMIT) (program_given self.old.contents)
-            (budget.old.limit - budget.old.spent) budget.old.spent) }
-        ensures contents { self.new.contents ≡ contents_after
-            (run_of (unsigned_abs N.LIMIT) (program_given self.old.contents)
-            (budget.old.limit - budget.old.spent) budget.old.spent) }
-        ensures units { budget.new.spent ≡ units_of
-            (run_of (unsigned_abs N.LIMIT) (program_given self.old.contents)
-            (budget.old.limit - budget.old.spent) budget.old.spent) }
+            (budget.old.limit - budget.old.spent) budget.old.spent)
+            result self.new.contents budget.new.spent }
         ensures holds { IsAsSaid (program_given self.old.contents)
             (run_of (unsigned_abs N.LIMIT) (program_given self.old.contents)
             (budget.old.limit - budget.old.spent) budget.old.spent) }
@@ -214,8 +204,8 @@ impl<N: Exact> Space<N> {
         ensures { N.fraction result ≡ at (y_of self.now.contents) i }
     {
         match self.stage {
-            Stage::WholeOptimal => self.whole.price_at(self.whole.variables() + i),
-            _ => self.table.price_at(self.table.variables() + i),
+            Stage::WholeOptimal => self.whole.reduced_cost(self.whole.variables() + i),
+            _ => self.table.reduced_cost(self.table.variables() + i),
         }
     }
 
@@ -226,8 +216,8 @@ impl<N: Exact> Space<N> {
         ensures { N.fraction result ≡ at (reduced_of self.now.contents) j }
     {
         match self.stage {
-            Stage::WholeOptimal => self.whole.price_at(j),
-            _ => self.table.price_at(j),
+            Stage::WholeOptimal => self.whole.reduced_cost(j),
+            _ => self.table.reduced_cost(j),
         }
     }
 
@@ -243,7 +233,7 @@ impl<N: Exact> Space<N> {
     }
 
     /// Entry j of the direction that the last run ended with.
-    pub(crate) fn direction(&self, j: usize) -> N
+    pub fn direction(&self, j: usize) -> N
         requires { j < length (direction_of self.now.contents) }
         ensures { N.fraction result ≡ at (direction_of self.now.contents) j }
     {

@@ -2,12 +2,12 @@
 ghost use Rattle.std.specs.Prelude.{◌≡◌, ◌-◌, ◌^◌, ◌≤◌, ℕ};
 ghost use Rattle.run_equivalence.specs.WholeRunning.{whole_run_from};
 ghost use Rattle.integer_tableau.specs.Tables.{as_whole, IsWithin, SameShape};
-ghost use Rattle.run_equivalence.specs.Lines.{widest};
+ghost use Rattle.run_equivalence.specs.IntegerRows.{widest};
 ghost use Rattle.simplex.specs.WholeEnds.{IsWholeEnd};
 
 use crate::budget::Budget;
 use fraction_tableau::Entering;
-use integer_tableau::{Turn, WholeTable};
+use integer_tableau::{PivotEnd, WholeTable};
 
 /// How a run over rows of whole numbers ends.
 #[derive(Clone, Copy)]
@@ -22,12 +22,12 @@ pub enum WholeEnd {
     GivenUp,
 }
 
-// Where a row wants 128 bits in one of so many turns at first, rows grow on, and most such runs are
+// Where a row wants 128 bits in one of so many pivots at first, rows grow on, and most such runs are
 // given up: so this is done at once, and nearly all that end want their first such row later.
 const EARLY: u32 = 48;
 
-/// Turns until no column enters, nothing limits the column or no unit is left. The run is given up
-/// where a step may leave the limit, and where a row wants 128 bits in the first turns.
+/// Pivots until no column enters, nothing limits the column or no unit is left. The run is given up
+/// where a step may leave the limit, and where a row wants 128 bits in the first pivots.
 pub fn whole_run(table: &mut WholeTable, limit: u128, budget: &mut Budget) -> WholeEnd
     requires limit { (widest ≤ limit) × (limit ≤ 2 ^ 127 - 1) }
     requires within { IsWithin limit table.old }
@@ -45,10 +45,10 @@ pub fn whole_run(table: &mut WholeTable, limit: u128, budget: &mut Budget) -> Wh
         if !budget.spend() {
             return WholeEnd::NoUnit;
         }
-        match table.turn(column.place, limit) {
-            Turn::Moved => {}
-            Turn::Unlimited => return WholeEnd::Unbounded { column },
-            Turn::GivenUp => return WholeEnd::GivenUp,
+        match table.pivot(column.place, limit) {
+            PivotEnd::Moved => {}
+            PivotEnd::Unlimited => return WholeEnd::Unbounded { column },
+            PivotEnd::GivenUp => return WholeEnd::GivenUp,
         }
     }
     WholeEnd::Optimal

@@ -1,9 +1,9 @@
--- Bland's rule: no turns by it lead back to the same basic variables.
+-- Bland's rule: no pivots by it lead back to the same basic variables.
 use Rattle.std.proofs.Common.{◌≡◌, ℕ, zero, suc, ◌<◌, ◌≤◌, arith, refl, sym, ◌∙◌, ap, subst, ℤ, pos, ◌<ℤ◌, ◌≤ℤ◌, neg_ℤ, ◌⊎◌, inl, inr}
 use Rattle.std.proofs.Math.Decide.{ℕ_discrete}
 use Rattle.std.proofs.lemmas.Bool.{cases_lt}
 use Rattle.std.proofs.lemmas.Int.{ints, by_lt_z}
-use Rattle.simplex_run.specs.Tableau.{ratio, IsBlandTurn, Tableau, IsFeasible, HaveSameSolutions, row_at}
+use Rattle.simplex_run.specs.Tableau.{ratio, IsBlandPivot, Tableau, IsFeasible, HaveSameSolutions, row_at}
 use Rattle.exact_num.proofs.Rationals.{zero_add_Q, mul_0, zero_mul_Q, mul_1, one_mul_Q, add_comm, neg_add, neg_0, neg_neg, mul_neg, neg_mul, mul_assoc_Q, mul_comm_Q, mul_inv, add_cancel, add_not_below, mul_not_below, inv_not_below, neg_not_below, above_is_not_zero, zero_has, zero_not_below, at_most_of_sum, at_most_refl, at_most_trans, at_most_antisymm, not_below_out, neg_Q_is, itself_is}
 use Rattle.exact_num.specs.Rationals.{Q, ◌+Q◌, ◌*Q◌, neg_Q, inv_Q, 0Q, 1Q, IsNotBelow0, IsAbove0, IsAtMost, total, unit, spread}
 use Rattle.exact_num.proofs.Totals.{total-ext, total-zero, total-neg, total-unit, unit-same, unit-other, spread-other}
@@ -71,36 +71,36 @@ price_same m n T U g h tied same j low =
     ∙ point_earns m n U j 1Q h low ∙ mul_1 _
 
 -- ---- the value never falls, and where it stays the right side of the pivot's row is 0
-gain : (m n e r : ℕ) (T U : Tableau) → IsBlandTurn m n e r T U → Q
+gain : (m n e r : ℕ) (T U : Tableau) → IsBlandPivot m n e r T U → Q
 gain m n e r T U b = neg_Q (T.price e) *Q U.entry r n
 
-gain_is : (m n e r : ℕ) (T U : Tableau) (b : IsBlandTurn m n e r T U) → T.price n +Q gain m n e r T U b ≡ U.price n
+gain_is : (m n e r : ℕ) (T U : Tableau) (b : IsBlandPivot m n e r T U) → T.price n +Q gain m n e r T U b ≡ U.price n
 unfolding gain
-gain_is m n e r T U b = ap (λ w. T.price n +Q w) (neg_mul _ _) ∙ sym (b.turn.prices n (omega arith))
+gain_is m n e r T U b = ap (λ w. T.price n +Q w) (neg_mul _ _) ∙ sym (b.pivoted.prices n (omega arith))
 
-value_up : (m n e r : ℕ) (T U : Tableau) → IsFeasible m n U → IsBlandTurn m n e r T U → IsAtMost (T.price n) (U.price n)
+value_up : (m n e r : ℕ) (T U : Tableau) → IsFeasible m n U → IsBlandPivot m n e r T U → IsAtMost (T.price n) (U.price n)
 unfolding gain
 value_up m n e r T U h b =
     at_most_of_sum (T.price n) (gain m n e r T U b) (U.price n) (gain_is m n e r T U b)
     (mul_not_below _ _ (neg_not_below (T.price e) (below_at_most _ b.choice.below)) (h.right r b.choice.row))
 
-degenerate : (m n e r : ℕ) (T U : Tableau) (b : IsBlandTurn m n e r T U) → T.price n ≡ U.price n → U.entry r n ≡ 0Q
+degenerate : (m n e r : ℕ) (T U : Tableau) (b : IsBlandPivot m n e r T U) → T.price n ≡ U.price n → U.entry r n ≡ 0Q
 unfolding gain
 degenerate m n e r T U b same =
     let none : gain m n e r T U b ≡ 0Q = add_cancel (gain m n e r T U b) 0Q (T.price n) (add_comm _ _ ∙ gain_is m n e r T U b ∙ sym same ∙ sym (zero_add_Q _)) in
     let product : T.price e *Q U.entry r n ≡ 0Q = sym (neg_neg _) ∙ ap neg_Q (sym (neg_mul _ _) ∙ none) ∙ neg_0 in
     none_of_product (T.price e) (U.entry r n) (below_not_zero _ b.choice.below) product
 
-degenerate_before : (m n e r : ℕ) (T U : Tableau) (b : IsBlandTurn m n e r T U) → U.entry r n ≡ 0Q → T.entry r n ≡ 0Q
+degenerate_before : (m n e r : ℕ) (T U : Tableau) (b : IsBlandPivot m n e r T U) → U.entry r n ≡ 0Q → T.entry r n ≡ 0Q
 degenerate_before m n e r T U b none =
     let pe = T.entry r e in
-    sym (mul_1 _) ∙ ap (λ w. T.entry r n *Q w) (sym (mul_inv pe (above_is_not_zero pe b.choice.above)) ∙ mul_comm_Q pe (inv_Q pe)) ∙ sym (mul_assoc_Q _ _ _) ∙ ap (λ w. w *Q pe) (sym (b.turn.pivot n (omega arith)) ∙ none) ∙ zero_mul_Q pe
+    sym (mul_1 _) ∙ ap (λ w. T.entry r n *Q w) (sym (mul_inv pe (above_is_not_zero pe b.choice.above)) ∙ mul_comm_Q pe (inv_Q pe)) ∙ sym (mul_assoc_Q _ _ _) ∙ ap (λ w. w *Q pe) (sym (b.pivoted.pivot n (omega arith)) ∙ none) ∙ zero_mul_Q pe
 
 -- ---- the basic solution
 pub solution : ℕ → ℕ → Tableau → ℕ → Q
 solution m n T j = spread m T.basic (λ i. T.entry i n) j
 
-solution_stays : (m n e r : ℕ) (T U : Tableau) → IsBlandTurn m n e r T U → T.price n ≡ U.price n → (j : ℕ) → solution m n T j ≡ solution m n U j
+solution_stays : (m n e r : ℕ) (T U : Tableau) → IsBlandPivot m n e r T U → T.price n ≡ U.price n → (j : ℕ) → solution m n T j ≡ solution m n U j
 unfolding solution spread
 solution_stays m n e r T U b same j =
     let none : U.entry r n ≡ 0Q = degenerate m n e r T U b same in
@@ -110,8 +110,8 @@ solution_stays m n e r T U b same j =
           ap (λ w. unit (T.basic i) j *Q w) (ap (λ w. T.entry w n) is_r ∙ before) ∙ mul_0 _
           ∙ sym (ap (λ w. unit (U.basic i) j *Q w) (ap (λ w. U.entry w n) is_r ∙ none) ∙ mul_0 _)
       | no ne ↦
-          ap (λ w. unit w j *Q T.entry i n) (sym (b.turn.stays i p ne))
-          ∙ ap (λ w. unit (U.basic i) j *Q w) (sym (b.turn.others i n p ne (omega arith) ∙ less_none _ _ _ none))
+          ap (λ w. unit w j *Q T.entry i n) (sym (b.pivoted.stays i p ne))
+          ∙ ap (λ w. unit (U.basic i) j *Q w) (sym (b.pivoted.others i n p ne (omega arith) ∙ less_none _ _ _ none))
     ])
 
 solution_outside : (m n : ℕ) (T : Tableau) (j : ℕ) → (IsIn m T j → ⊥) → solution m n T j ≡ 0Q
@@ -142,43 +142,43 @@ in_or_not (suc m) T j =
       ]
     ]
 
-enters_is : (m n e r : ℕ) (T U : Tableau) (b : IsBlandTurn m n e r T U) (j : ℕ) → (IsIn m T j → ⊥) → IsIn m U j → j ≡ e
+enters_is : (m n e r : ℕ) (T U : Tableau) (b : IsBlandPivot m n e r T U) (j : ℕ) → (IsIn m T j → ⊥) → IsIn m U j → j ≡ e
 enters_is m n e r T U b j out w =
     elim (ℕ_discrete w.0 r) [
-      | yes is_r ↦ sym w.2 ∙ ap U.basic is_r ∙ b.turn.enters
-      | no ne ↦ absurd (out (w.0, w.1, sym (b.turn.stays w.0 w.1 ne) ∙ w.2))
+      | yes is_r ↦ sym w.2 ∙ ap U.basic is_r ∙ b.pivoted.enters
+      | no ne ↦ absurd (out (w.0, w.1, sym (b.pivoted.stays w.0 w.1 ne) ∙ w.2))
     ]
 
-leaves_is : (m n e r : ℕ) (T U : Tableau) (b : IsBlandTurn m n e r T U) (j : ℕ) → IsIn m T j → (IsIn m U j → ⊥) → T.basic r ≡ j
+leaves_is : (m n e r : ℕ) (T U : Tableau) (b : IsBlandPivot m n e r T U) (j : ℕ) → IsIn m T j → (IsIn m U j → ⊥) → T.basic r ≡ j
 leaves_is m n e r T U b j w out =
     elim (ℕ_discrete w.0 r) [
       | yes is_r ↦ ap T.basic (sym is_r) ∙ w.2
-      | no ne ↦ absurd (out (w.0, w.1, b.turn.stays w.0 w.1 ne ∙ w.2))
+      | no ne ↦ absurd (out (w.0, w.1, b.pivoted.stays w.0 w.1 ne ∙ w.2))
     ]
 
-entering_is_out : (m n e r : ℕ) (T U : Tableau) → IsFeasible m n T → (b : IsBlandTurn m n e r T U) → IsIn m T e → ⊥
+entering_is_out : (m n e r : ℕ) (T U : Tableau) → IsFeasible m n T → (b : IsBlandPivot m n e r T U) → IsIn m T e → ⊥
 entering_is_out m n e r T U g b w = below_not_zero _ b.choice.below (zero_has (T.price e) (ap T.price (sym w.2) ∙ g.priced w.0 w.1))
 
-entered_is_in : (m n e r : ℕ) (T U : Tableau) (b : IsBlandTurn m n e r T U) → IsIn m U e
-entered_is_in m n e r T U b = (r, b.choice.row, b.turn.enters)
+entered_is_in : (m n e r : ℕ) (T U : Tableau) (b : IsBlandPivot m n e r T U) → IsIn m U e
+entered_is_in m n e r T U b = (r, b.choice.row, b.pivoted.enters)
 
--- ---- turns one after another
-pub record Turns (m n L : ℕ) (T : ℕ → Tableau) : Type 0 where
+-- ---- pivots one after another
+pub record Pivots (m n L : ℕ) (T : ℕ → Tableau) : Type 0 where
   pub e : ℕ → ℕ
   pub r : ℕ → ℕ
   pub good : (k : ℕ) → k ≤ L → IsFeasible m n (T k)
-  pub step : (k : ℕ) → k < L → IsBlandTurn m n (e k) (r k) (T k) (T (suc k))
+  pub step : (k : ℕ) → k < L → IsBlandPivot m n (e k) (r k) (T k) (T (suc k))
 
-tied_from : (m n L : ℕ) (T : ℕ → Tableau) → Turns m n L T → (k : ℕ) → k ≤ L → HaveSameSolutions m n (T 0) (T k)
+tied_from : (m n L : ℕ) (T : ℕ → Tableau) → Pivots m n L T → (k : ℕ) → k ≤ L → HaveSameSolutions m n (T 0) (T k)
 tied_from m n L T t zero low = tied_refl m n (T 0)
 tied_from m n L T t (suc k) low =
     let b = t.step k low in
-    tied_trans m n (T 0) (T k) (T (suc k)) (tied_from m n L T t k (omega (arith, low))) (tied_after m n (t.e k) (t.r k) (T k) (T (suc k)) b.choice b.turn)
+    tied_trans m n (T 0) (T k) (T (suc k)) (tied_from m n L T t k (omega (arith, low))) (tied_after m n (t.e k) (t.r k) (T k) (T (suc k)) b.choice b.pivoted)
 
-tied_between : (m n L : ℕ) (T : ℕ → Tableau) → Turns m n L T → (i j : ℕ) → i ≤ L → j ≤ L → HaveSameSolutions m n (T i) (T j)
+tied_between : (m n L : ℕ) (T : ℕ → Tableau) → Pivots m n L T → (i j : ℕ) → i ≤ L → j ≤ L → HaveSameSolutions m n (T i) (T j)
 tied_between m n L T t i j p q = tied_trans m n (T i) (T 0) (T j) (tied_sym m n (T 0) (T i) (tied_from m n L T t i p)) (tied_from m n L T t j q)
 
-values_up : (m n L : ℕ) (T : ℕ → Tableau) → Turns m n L T → (i j : ℕ) → i ≤ j → j ≤ L → IsAtMost ((T i).price n) ((T j).price n)
+values_up : (m n L : ℕ) (T : ℕ → Tableau) → Pivots m n L T → (i j : ℕ) → i ≤ j → j ≤ L → IsAtMost ((T i).price n) ((T j).price n)
 values_up m n L T t i zero low high = let e : 0 ≡ i = omega (arith, low) in subst (λ w. IsAtMost ((T w).price n) ((T 0).price n)) e (at_most_refl _)
 values_up m n L T t i (suc j) low high =
     elim (ℕ_discrete i (suc j)) [
@@ -186,14 +186,14 @@ values_up m n L T t i (suc j) low high =
       | no ne ↦ at_most_trans ((T i).price n) ((T j).price n) ((T (suc j)).price n) (values_up m n L T t i j (omega (arith, low, ne)) (omega (arith, high))) (value_up m n (t.e j) (t.r j) (T j) (T (suc j)) (t.good (suc j) high) (t.step j high))
     ]
 
--- where the turns lead back, the value stays
-constant : (m n L : ℕ) (T : ℕ → Tableau) → Turns m n L T → HaveSame m (T 0) (T L) → (k : ℕ) → k < L → (T k).price n ≡ (T (suc k)).price n
+-- where the pivots lead back, the value stays
+constant : (m n L : ℕ) (T : ℕ → Tableau) → Pivots m n L T → HaveSame m (T 0) (T L) → (k : ℕ) → k < L → (T k).price n ≡ (T (suc k)).price n
 constant m n L T t same k low =
     let ends : (T 0).price n ≡ (T L).price n = price_same m n (T 0) (T L) (t.good 0 (omega arith)) (t.good L (omega arith)) (tied_from m n L T t L (omega arith)) same n (omega arith) in
     at_most_antisymm _ _ (values_up m n L T t k (suc k) (omega arith) low)
     (at_most_trans _ ((T L).price n) _ (values_up m n L T t (suc k) L low (omega arith)) (subst (λ w. IsAtMost w ((T k).price n)) ends (values_up m n L T t 0 k (omega arith) (omega (arith, low)))))
 
-solution_same : (m n L : ℕ) (T : ℕ → Tableau) → Turns m n L T → HaveSame m (T 0) (T L) → (k : ℕ) → k ≤ L → (j : ℕ) → solution m n (T 0) j ≡ solution m n (T k) j
+solution_same : (m n L : ℕ) (T : ℕ → Tableau) → Pivots m n L T → HaveSame m (T 0) (T L) → (k : ℕ) → k ≤ L → (j : ℕ) → solution m n (T 0) j ≡ solution m n (T k) j
 solution_same m n L T t same zero low j = refl
 solution_same m n L T t same (suc k) low j = solution_same m n L T t same k (omega (arith, low)) j ∙ solution_stays m n (t.e k) (t.r k) (T k) (T (suc k)) (t.step k low) (constant m n L T t same k low) j
 
@@ -244,29 +244,29 @@ largest f (suc L) h =
           ]
     ]
 
--- what comes in between two tables enters at some turn
-comes_in : (m n L : ℕ) (T : ℕ → Tableau) (t : Turns m n L T) (j a b : ℕ) → a ≤ b → b ≤ L → (IsIn m (T a) j → ⊥) → IsIn m (T b) j → (k : ℕ) × (k < L) × (j ≡ t.e k)
+-- what comes in between two tables enters at some pivot
+comes_in : (m n L : ℕ) (T : ℕ → Tableau) (t : Pivots m n L T) (j a b : ℕ) → a ≤ b → b ≤ L → (IsIn m (T a) j → ⊥) → IsIn m (T b) j → (k : ℕ) × (k < L) × (j ≡ t.e k)
 comes_in m n L T t j a b low high out here =
     let r = lost (λ k. IsIn m (T k) j → ⊥) (λ k. turned_test (in_or_not m (T k) j)) a b low out (λ none. none here) in
     let p : r.0 < L = omega (arith, r.2, high) in
     (r.0, p, enters_is m n (t.e r.0) (t.r r.0) (T r.0) (T (suc r.0)) (t.step r.0 p) j r.3 (not_twice (in_or_not m (T (suc r.0)) j) r.4))
 
-goes_out : (m n L : ℕ) (T : ℕ → Tableau) (t : Turns m n L T) (j a b : ℕ) → a ≤ b → b ≤ L → IsIn m (T a) j → (IsIn m (T b) j → ⊥) → (k : ℕ) × (k < L) × IsIn m (T k) j × ((T k).basic (t.r k) ≡ j)
+goes_out : (m n L : ℕ) (T : ℕ → Tableau) (t : Pivots m n L T) (j a b : ℕ) → a ≤ b → b ≤ L → IsIn m (T a) j → (IsIn m (T b) j → ⊥) → (k : ℕ) × (k < L) × IsIn m (T k) j × ((T k).basic (t.r k) ≡ j)
 goes_out m n L T t j a b low high here out =
     let r = lost (λ k. IsIn m (T k) j) (λ k. in_or_not m (T k) j) a b low here out in
     let p : r.0 < L = omega (arith, r.2, high) in
     (r.0, p, r.3, leaves_is m n (t.e r.0) (t.r r.0) (T r.0) (T (suc r.0)) (t.step r.0 p) j r.3 r.4)
 
--- where the turns lead back, what is in at one table and out at another enters at some turn
-fickle_enters : (m n L : ℕ) (T : ℕ → Tableau) (t : Turns m n L T) → HaveSame m (T 0) (T L) → (j a b : ℕ) → a ≤ L → b ≤ L → IsIn m (T a) j → (IsIn m (T b) j → ⊥) → (k : ℕ) × (k < L) × (j ≡ t.e k)
+-- where the pivots lead back, what is in at one table and out at another enters at some pivot
+fickle_enters : (m n L : ℕ) (T : ℕ → Tableau) (t : Pivots m n L T) → HaveSame m (T 0) (T L) → (j a b : ℕ) → a ≤ L → b ≤ L → IsIn m (T a) j → (IsIn m (T b) j → ⊥) → (k : ℕ) × (k < L) × (j ≡ t.e k)
 fickle_enters m n L T t same j a b p q here out =
     elim (in_or_not m (T 0) j) [
       | inl at_0 ↦ comes_in m n L T t j b L q (omega arith) out (same.there j at_0)
       | inr none ↦ comes_in m n L T t j 0 a (omega arith) p none here
     ]
 
--- and what enters leaves at some turn
-fickle_leaves : (m n L : ℕ) (T : ℕ → Tableau) (t : Turns m n L T) → HaveSame m (T 0) (T L) → (k : ℕ) → k < L → (d : ℕ) × (d < L) × IsIn m (T d) (t.e k) × ((T d).basic (t.r d) ≡ t.e k)
+-- and what enters leaves at some pivot
+fickle_leaves : (m n L : ℕ) (T : ℕ → Tableau) (t : Pivots m n L T) → HaveSame m (T 0) (T L) → (k : ℕ) → k < L → (d : ℕ) × (d < L) × IsIn m (T d) (t.e k) × ((T d).basic (t.r d) ≡ t.e k)
 fickle_leaves m n L T t same k p =
     let j = t.e k in
     let b = t.step k p in
@@ -278,7 +278,7 @@ fickle_leaves m n L T t same k p =
     ]
 
 -- where a term of the sum is above 0
-clash_at : (m n e r e' r' : ℕ) (T T' U U' : Tableau) → IsFeasible m n T → IsFeasible m n U → IsBlandTurn m n e r T T' → IsBlandTurn m n e' r' U U' → T.basic r ≡ e' → ((j : ℕ) → IsIn m T j → (IsIn m U j → ⊥) → j ≤ e') → ((j : ℕ) → solution m n T j ≡ solution m n U j) → (i : ℕ) → i < m → IsAbove0 (U.price (T.basic i) *Q T.entry i e) → ⊥
+clash_at : (m n e r e' r' : ℕ) (T T' U U' : Tableau) → IsFeasible m n T → IsFeasible m n U → IsBlandPivot m n e r T T' → IsBlandPivot m n e' r' U U' → T.basic r ≡ e' → ((j : ℕ) → IsIn m T j → (IsIn m U j → ⊥) → j ≤ e') → ((j : ℕ) → solution m n T j ≡ solution m n U j) → (i : ℕ) → i < m → IsAbove0 (U.price (T.basic i) *Q T.entry i e) → ⊥
 clash_at m n e r e' r' T T' U U' gT gU bT bU leaves bound same i p above =
     let b : ℕ = T.basic i in
     let out : IsIn m U b → ⊥ = λ q.
@@ -299,8 +299,8 @@ clash_at m n e r e' r' T T' U U' gT gU bT bU leaves bound same i p above =
     let tie : T.basic r ≤ T.basic i = bT.ties i p entry_above equal in
     omega (arith, tie, leaves, less)
 
--- ---- two turns that cannot both be: e' leaves at the first and enters at the second, and no variable past it ever changes
-clash : (m n e r e' r' : ℕ) (T T' U U' : Tableau) → IsFeasible m n T → IsFeasible m n U → HaveSameSolutions m n T U → IsBlandTurn m n e r T T' → IsBlandTurn m n e' r' U U' → T.basic r ≡ e' → e ≤ e' → ((j : ℕ) → IsIn m T j → (IsIn m U j → ⊥) → j ≤ e') → ((j : ℕ) → solution m n T j ≡ solution m n U j) → ⊥
+-- ---- two pivots that cannot both be: e' leaves at the first and enters at the second, and no variable past it ever changes
+clash : (m n e r e' r' : ℕ) (T T' U U' : Tableau) → IsFeasible m n T → IsFeasible m n U → HaveSameSolutions m n T U → IsBlandPivot m n e r T T' → IsBlandPivot m n e' r' U U' → T.basic r ≡ e' → e ≤ e' → ((j : ℕ) → IsIn m T j → (IsIn m U j → ⊥) → j ≤ e') → ((j : ℕ) → solution m n T j ≡ solution m n U j) → ⊥
 clash m n e r e' r' T T' U U' gT gU tied bT bU leaves at_most bound same =
     let not_e : e ≡ e' → ⊥ = λ w. entering_is_out m n e r T T' gT bT (r, bT.choice.row, leaves ∙ sym w) in
     let less : e < e' = omega (arith, at_most, not_e) in
@@ -316,7 +316,7 @@ clash m n e r e' r' T T' U U' gT gU tied bT bU leaves at_most bound same =
     let w = total_above m f above in
     clash_at m n e r e' r' T T' U U' gT gU bT bU leaves bound same w.0 w.1 w.2
 
-no_cycle_at : (m n L : ℕ) (T : ℕ → Tableau) (t : Turns m n L T) → HaveSame m (T 0) (T L) → (k : ℕ) → k < L → ((i : ℕ) → i < L → t.e i ≤ t.e k) → ⊥
+no_cycle_at : (m n L : ℕ) (T : ℕ → Tableau) (t : Pivots m n L T) → HaveSame m (T 0) (T L) → (k : ℕ) → k < L → ((i : ℕ) → i < L → t.e i ≤ t.e k) → ⊥
 no_cycle_at m n L T t same k p top =
     let out = fickle_leaves m n L T t same k p in
     let d = out.0 in
@@ -326,8 +326,8 @@ no_cycle_at m n L T t same k p top =
     (λ j here gone. let c = fickle_enters m n L T t same j d k below_d below_k here gone in subst (λ w. w ≤ t.e k) (sym c.2) (top c.0 c.1))
     (λ j. sym (solution_same m n L T t same d below_d j) ∙ solution_same m n L T t same k below_k j)
 
--- turns by Bland's rule never lead back to the same basic variables
-pub no_cycle : (m n L : ℕ) (T : ℕ → Tableau) → Turns m n L T → 0 < L → HaveSame m (T 0) (T L) → ⊥
+-- pivots by Bland's rule never lead back to the same basic variables
+pub no_cycle : (m n L : ℕ) (T : ℕ → Tableau) → Pivots m n L T → 0 < L → HaveSame m (T 0) (T L) → ⊥
 no_cycle m n L T t some same =
     let big = largest t.e L some in
     no_cycle_at m n L T t same big.0 big.1 big.2

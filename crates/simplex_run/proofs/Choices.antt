@@ -18,12 +18,12 @@ use Rattle.simplex_run.specs.Places.{at}
 use Rattle.simplex_run.specs.Table.{Row, Table, label_at, with_right, entries_at, right_side, basic_at, entry_for, own_entry, no_entry}
 use Rattle.simplex_run.specs.Choice.{Column, smaller, least_below, entering, Ratio, ratio_in, ratios, join_ratio, lesser, least, by_order}
 use Rattle.simplex_run.specs.Pivot.{after_pivot}
-use Rattle.simplex_run.specs.Run.{turn, moved, unlimited, moved_or_stopped, on_ratios, leave}
-use Rattle.simplex_run.specs.Tableau.{ratio, IsAfterPivot, IsBlandTurn, tableau_of}
+use Rattle.simplex_run.specs.Run.{pivoted, moved, unlimited, moved_or_stopped, on_ratios, leave}
+use Rattle.simplex_run.specs.Tableau.{ratio, IsAfterPivot, IsBlandPivot, tableau_of}
 use Rattle.simplex_run.proofs.Listed.{by_first}
 use Rattle.simplex_run.proofs.Columns.{find, entry_none}
 use Rattle.simplex_run.proofs.Entries.{IsTable, place_is, named, named_right, column_entry, right_entry}
-use Rattle.simplex_run.proofs.Turning.{turn_out}
+use Rattle.simplex_run.proofs.Pivoting.{pivot_out}
 
 -- ---- the entering column
 test_below : (z : ℤ) → int_lt z (pos 0) ≡ true → z <ℤ pos 0
@@ -262,9 +262,9 @@ least_limits limit columns e rows q qs low h =
     let is_row : (least q qs).place ≡ best.row = best.place ∙ omega arith in
     (omega (arith, is_row, best.inside), subst (λ r. pos 0 <ℤ (at (entries_at rows r) e).numerator) (sym is_row) best.above)
 
--- ---- what a turn says
-pub moved_out : (limit c : ℕ) (t u : Table) → turn limit c t ≡ moved u → (q : Ratio) × (qs : List Ratio) × (ratios limit (length t.labels) c 0 t.rows ≡ Ok (q ∷ qs)) × (after_pivot limit c (least q qs).place t ≡ Ok u)
-unfolding turn
+-- ---- what a pivot says
+pub moved_out : (limit c : ℕ) (t u : Table) → pivoted limit c t ≡ moved u → (q : Ratio) × (qs : List Ratio) × (ratios limit (length t.labels) c 0 t.rows ≡ Ok (q ∷ qs)) × (after_pivot limit c (least q qs).place t ≡ Ok u)
+unfolding pivoted
 moved_out limit c t u h = step (ratios limit (length t.labels) c 0 t.rows) refl h
   where
     moved_ok : (r : Result Table Wide) → moved_or_stopped r ≡ moved u → r ≡ Ok u
@@ -276,8 +276,8 @@ moved_out limit c t u h = step (ratios limit (length t.labels) c 0 t.rows) refl 
     step (Ok (q ∷ qs)) f k = (q, qs, f, moved_ok _ k)
     step (Err w) f k = cc
 
-pub unlimited_out : (limit c : ℕ) (t : Table) → turn limit c t ≡ unlimited → ratios limit (length t.labels) c 0 t.rows ≡ Ok []
-unfolding turn
+pub unlimited_out : (limit c : ℕ) (t : Table) → pivoted limit c t ≡ unlimited → ratios limit (length t.labels) c 0 t.rows ≡ Ok []
+unfolding pivoted
 unlimited_out limit c t h = step (ratios limit (length t.labels) c 0 t.rows) refl h
   where
     not_ray : (r : Result Table Wide) → moved_or_stopped r ≡ unlimited → ⊥
@@ -340,7 +340,7 @@ entry_entering n m t c own es g e wide = ap (λ j. value (entry_for own (with_ri
 pub price_entering : (n m : ℕ) (t : Table) (c : Column) → IsTable n m t → Enters n t c → IsBelow0 ((tableau_of t).price c.label)
 price_entering n m t c g e = subst IsBelow0 (sym (entry_entering n m t c no_entry t.objective g e g.width)) (below_value _ (g.lowest_price c.place) e.below)
 
--- ---- the choice of a turn
+-- ---- the choice of a pivot
 -- the sign of a price, where no column of that variable has an entry below 0
 pub price_sign : (n m : ℕ) (t : Table) → IsTable n m t → (j : ℕ) → j < n + m → ((k : ℕ) → k < n → label_at t.labels k ≡ j → (at t.objective k).numerator <ℤ pos 0 → ⊥) → IsNotBelow0 ((tableau_of t).price j)
 price_sign n m t g j low h =
@@ -357,10 +357,10 @@ price_sign n m t g j low h =
       | inr none ↦ subst IsNotBelow0 (sym (ap value (entry_none no_entry (with_right t.columns t.labels) t.objective j none) ∙ value_zero)) zero_not_below
     ]
 
--- a turn that fits is one by Bland's rule
-pub bland_turn : (limit n m : ℕ) (t u : Table) (c : Column) (q : Ratio) (qs : List Ratio) → IsTable n m t → entering t ≡ Some c → ratios limit (length t.labels) c.place 0 t.rows ≡ Ok (q ∷ qs) → after_pivot limit c.place (least q qs).place t ≡ Ok u
-    → IsTable n m u × IsBlandTurn m (n + m) c.label (least q qs).place (tableau_of t) (tableau_of u)
-bland_turn limit n m t u c q qs g enters is_ratios is_u =
+-- a pivot that fits is one by Bland's rule
+pub bland_pivot : (limit n m : ℕ) (t u : Table) (c : Column) (q : Ratio) (qs : List Ratio) → IsTable n m t → entering t ≡ Some c → ratios limit (length t.labels) c.place 0 t.rows ≡ Ok (q ∷ qs) → after_pivot limit c.place (least q qs).place t ≡ Ok u
+    → IsTable n m u × IsBlandPivot m (n + m) c.label (least q qs).place (tableau_of t) (tableau_of u)
+bland_pivot limit n m t u c q qs g enters is_ratios is_u =
     let T = tableau_of t in
     let e = entering_out n m t c g enters in
     let h = c.place in
@@ -384,7 +384,7 @@ bland_turn limit n m t u c q qs g enters is_ratios is_u =
     let w = a.each_has i (omega (arith, p, g.count)) (value_above _ (g.lowest i h) (subst IsAbove0 (at_e i p) up)) in
     (w.0, w.1, w.3, w.5 ∙ ap (λ k. value (at (entries_at t.rows i) k) *Q inv_Q (E i)) g.labels) in
     let is_inside = label_inside n m t c g e in
-    let o = turn_out limit n m h r t u g in_c in_r (λ z. let up = value_above _ (g.lowest r h) above in omega (arith, ints, z, up)) is_u in (
+    let o = pivot_out limit n m h r t u g in_c in_r (λ z. let up = value_above _ (g.lowest r h) above in omega (arith, ints, z, up)) is_u in (
       o.0,
       record {
         choice = record {
@@ -396,7 +396,7 @@ bland_turn limit n m t u c q qs g enters is_ratios is_u =
               let w = other i p up in
               subst (λ x. IsAtMost x (ratio T (n + m) c.label i)) (value_r ∙ sym (is_ratio r in_r)) (subst (IsAtMost (value (least q qs).value)) (w.3 ∙ sym (is_ratio i p)) (l.1 w.0 w.1).0);
         };
-        turn = subst (λ w. IsAfterPivot m (n + m) w r T (tableau_of u)) (sym e.labelled) o.1;
+        pivoted = subst (λ w. IsAfterPivot m (n + m) w r T (tableau_of u)) (sym e.labelled) o.1;
         first = λ j l. price_sign n m t g j (omega (arith, l, is_inside)) (λ k in_k is_j below. let up = e.least k in_k below in omega (arith, up, is_j, l));
         ties = λ i p up same.
             let w = other i p up in

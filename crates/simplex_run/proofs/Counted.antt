@@ -4,7 +4,7 @@ use Rattle.std.specs.Prelude.{Option, Some, None}
 use Rattle.simplex_run.specs.Table.{Table, first_table}
 use Rattle.simplex_run.specs.Choice.{Column, entering}
 use Rattle.simplex_run.specs.Ending.{Ending, done, unbounded, wide_at, no_unit_left}
-use Rattle.simplex_run.specs.Run.{Optimum, optimum, Turn, moved, unlimited, stopped, turn, on_entering, on_turn, read_off, direction, run_from, run}
+use Rattle.simplex_run.specs.Run.{Optimum, optimum, PivotEnd, moved, unlimited, stopped, pivoted, on_entering, on_pivot, read_off, direction, run_from, run}
 use Rattle.simplex_run.specs.Units.{IsCounted, UnitsAreCounted}
 
 -- an end counted after one more unit
@@ -27,16 +27,16 @@ counted limit n m zero spent t = step (entering t)
     step (Some c) = omega arith
 counted limit n m (suc left) spent t = step (entering t) (λ u. counted limit n m left (spent + 1) u)
   where
-    act : (c : Column) (w : Turn) → ((u : Table) → IsCounted left (spent + 1) (run_from limit n m left (spent + 1) u))
-        → IsCounted (suc left) spent (on_turn w (λ next. run_from limit n m left (spent + 1) next) (unbounded (direction n c t) (spent + 1)) (λ w. wide_at (spent + 1) w))
+    act : (c : Column) (w : PivotEnd) → ((u : Table) → IsCounted left (spent + 1) (run_from limit n m left (spent + 1) u))
+        → IsCounted (suc left) spent (on_pivot w (λ next. run_from limit n m left (spent + 1) next) (unbounded (direction n c t) (spent + 1)) (λ w. wide_at (spent + 1) w))
     act c (moved u) later = more left spent (run_from limit n m left (spent + 1) u) (later u)
     act c unlimited later = (omega arith, omega arith)
     act c (stopped w) later = (omega arith, omega arith)
 
     step : (o : Option Column) → ((u : Table) → IsCounted left (spent + 1) (run_from limit n m left (spent + 1) u))
-        → IsCounted (suc left) spent (on_entering o (read_off n m t spent) (λ c. on_turn (turn limit c.place t) (λ next. run_from limit n m left (spent + 1) next) (unbounded (direction n c t) (spent + 1)) (λ w. wide_at (spent + 1) w)))
+        → IsCounted (suc left) spent (on_entering o (read_off n m t spent) (λ c. on_pivot (pivoted limit c.place t) (λ next. run_from limit n m left (spent + 1) next) (unbounded (direction n c t) (spent + 1)) (λ w. wide_at (spent + 1) w)))
     step None later = read_counted (suc left) n m t spent
-    step (Some c) later = act c (turn limit c.place t) later
+    step (Some c) later = act c (pivoted limit c.place t) later
 
 pub units_are_counted : UnitsAreCounted
 unfolding run

@@ -10,9 +10,9 @@ use Rattle.simplex_run.specs.Program.{LinearProgram}
 use Rattle.simplex_run.specs.Table.{Row, Table, label_at, with_right, entries_at, basic_at, first_table, right_side, row_of}
 use Rattle.simplex_run.specs.Choice.{Column, entering, ratio_in, ratios, least, join_ratio}
 use Rattle.exact_num.specs.Tests.{is_above_zero}
-use Rattle.simplex_run.specs.Pivot.{steps_of, told, divided, less_product, cleared, row_after, rows_after, after_pivot}
+use Rattle.simplex_run.specs.Pivot.{steps_of, told, divided, less_product, eliminated, row_after, rows_after, after_pivot}
 use Rattle.simplex_run.specs.Ending.{Ending, done, unbounded, wide_at, no_unit_left, HasNoMisfit}
-use Rattle.simplex_run.specs.Run.{Optimum, optimum, Turn, moved, unlimited, stopped, turn, run, run_from, on_entering, on_turn, read_off, direction}
+use Rattle.simplex_run.specs.Run.{Optimum, optimum, PivotEnd, moved, unlimited, stopped, pivoted, run, run_from, on_entering, on_pivot, read_off, direction}
 use Rattle.simplex_run.specs.Optimum.{IsProgram}
 use Rattle.simplex_run.specs.Choose.{choose}
 use Rattle.simplex_run.specs.Limits.{IsFound, RunsEnd}
@@ -71,7 +71,7 @@ div_fits : (x y : Fraction) → Fits (λ l. div_of l x y)
 unfolding div_of
 div_fits x y = let w = product_test x (inverse y) in (w.0, product_value x (inverse y), λ l low. let p = w.1 l low in rw p refl)
 
--- ---- a turn
+-- ---- a pivot
 steps_fit : (f : ℕ → ℕ → Result Fraction Wide) → ((k : ℕ) → Fits (λ l. f l k)) → (k : ℕ) (vs : List ℕ) → Fits (λ l. steps_of (f l) k vs)
 unfolding steps_of
 steps_fit f h k [] = ok_fits []
@@ -87,8 +87,8 @@ divided_fits : (c : ℕ) (labels : List ℕ) (entries : List Fraction) → Fits 
 unfolding divided
 divided_fits c labels entries = told_fits (λ l k. div_of l (at (set entries c (whole (pos 1))) k) (at entries c)) (λ k. div_fits (at (set entries c (whole (pos 1))) k) (at entries c)) labels
 
-cleared_fits : (c : ℕ) (labels : List ℕ) (pivot xs : List Fraction) → Fits (λ l. cleared l c labels pivot xs)
-unfolding cleared
+cleared_fits : (c : ℕ) (labels : List ℕ) (pivot xs : List Fraction) → Fits (λ l. eliminated l c labels pivot xs)
+unfolding eliminated
 cleared_fits c labels pivot xs =
     let f = at xs c in
     let x : ℕ → Fraction = at (set xs c fraction_zero) in
@@ -97,9 +97,9 @@ cleared_fits c labels pivot xs =
 row_fits : (c : ℕ) (labels : List ℕ) (e r : ℕ) (pivot : List Fraction) (i : ℕ) (row : Row) → Fits (λ l. row_after l c labels e r pivot i row)
 row_fits c labels e r pivot i row = step (nat_eq i r)
   where
-    step : (b : Bool) → Fits (λ l. if b then Ok (row_of e pivot) else after (cleared l c labels pivot row.entries) (λ es. Ok (row_of row.basic es)))
+    step : (b : Bool) → Fits (λ l. if b then Ok (row_of e pivot) else after (eliminated l c labels pivot row.entries) (λ es. Ok (row_of row.basic es)))
     step true = ok_fits (row_of e pivot)
-    step false = after_fits (λ l. cleared l c labels pivot row.entries) (λ l es. Ok (row_of row.basic es)) (cleared_fits c labels pivot row.entries) (λ es. ok_fits (row_of row.basic es))
+    step false = after_fits (λ l. eliminated l c labels pivot row.entries) (λ l es. Ok (row_of row.basic es)) (cleared_fits c labels pivot row.entries) (λ es. ok_fits (row_of row.basic es))
 
 rows_after_fits : (c : ℕ) (labels : List ℕ) (e r : ℕ) (pivot : List Fraction) (i : ℕ) (rows : List Row) → Fits (λ l. rows_after l c labels e r pivot i rows)
 unfolding rows_after
@@ -115,9 +115,9 @@ pivoted_fits c r t =
     let ks = with_right t.columns us in
     let e = label_at t.labels c in
     let made : List Row → List Fraction → Table = λ rows objective. record { columns = t.columns; labels = us; rows = rows; objective = objective } in
-    after_fits (λ l. divided l c ks (entries_at t.rows r)) (λ l pivot. after (rows_after l c ks e r pivot 0 t.rows) (λ rows. after (cleared l c ks pivot t.objective) (λ objective. Ok (made rows objective)))) (divided_fits c ks (entries_at t.rows r))
-    (λ pivot. after_fits (λ l. rows_after l c ks e r pivot 0 t.rows) (λ l rows. after (cleared l c ks pivot t.objective) (λ objective. Ok (made rows objective))) (rows_after_fits c ks e r pivot 0 t.rows)
-    (λ rows. after_fits (λ l. cleared l c ks pivot t.objective) (λ l objective. Ok (made rows objective)) (cleared_fits c ks pivot t.objective) (λ objective. ok_fits (made rows objective))))
+    after_fits (λ l. divided l c ks (entries_at t.rows r)) (λ l pivot. after (rows_after l c ks e r pivot 0 t.rows) (λ rows. after (eliminated l c ks pivot t.objective) (λ objective. Ok (made rows objective)))) (divided_fits c ks (entries_at t.rows r))
+    (λ pivot. after_fits (λ l. rows_after l c ks e r pivot 0 t.rows) (λ l rows. after (eliminated l c ks pivot t.objective) (λ objective. Ok (made rows objective))) (rows_after_fits c ks e r pivot 0 t.rows)
+    (λ rows. after_fits (λ l. eliminated l c ks pivot t.objective) (λ l objective. Ok (made rows objective)) (cleared_fits c ks pivot t.objective) (λ objective. ok_fits (made rows objective))))
 
 ratio_fits : (width c : ℕ) (entries : List Fraction) → Fits (λ l. ratio_in l width c entries)
 unfolding ratio_in
@@ -134,16 +134,16 @@ ratios_fits width c i (row ∷ rows) =
     after_fits (λ l. ratio_in l width c row.entries) (λ l q. after (ratios l width c (i + 1) rows) (λ qs. Ok (join_ratio i row.basic q qs))) (ratio_fits width c row.entries)
     (λ q. after_fits (λ l. ratios l width c (i + 1) rows) (λ l qs. Ok (join_ratio i row.basic q qs)) (ratios_fits width c (i + 1) rows) (λ qs. ok_fits (join_ratio i row.basic q qs)))
 
-abbrev Goes : Turn → Type 0
+abbrev Goes : PivotEnd → Type 0
 Goes (moved u) = Unit {0}
 Goes unlimited = Unit {0}
 Goes (stopped w) = ⊥
 
-turn_fits : (c : ℕ) (t : Table) → (l : ℕ) × (w : Turn) × Goes w × ((l' : ℕ) → l ≤ l' → turn l' c t ≡ w)
-unfolding turn
-turn_fits c t = step (ratios_fits (length t.labels) c 0 t.rows)
+pivot_fits : (c : ℕ) (t : Table) → (l : ℕ) × (w : PivotEnd) × Goes w × ((l' : ℕ) → l ≤ l' → pivoted l' c t ≡ w)
+unfolding pivoted
+pivot_fits c t = step (ratios_fits (length t.labels) c 0 t.rows)
   where
-    step : Fits (λ l. ratios l (length t.labels) c 0 t.rows) → (l : ℕ) × (w : Turn) × Goes w × ((l' : ℕ) → l ≤ l' → turn l' c t ≡ w)
+    step : Fits (λ l. ratios l (length t.labels) c 0 t.rows) → (l : ℕ) × (w : PivotEnd) × Goes w × ((l' : ℕ) → l ≤ l' → pivoted l' c t ≡ w)
     step (l, [], h) = (l, unlimited, tt, λ l' low. let p = h l' low in rw p refl)
     step (l, q ∷ qs, h) =
         let v = pivoted_fits c (least q qs).place t in
@@ -163,16 +163,16 @@ run_fits n m zero spent t = (0, λ l' low. step (entering t))
     step (Some c) = tt
 run_fits n m (suc left) spent t = step (entering t) (λ u. run_fits n m left (spent + 1) u)
   where
-    act : (c : Column) → ((u : Table) → (l : ℕ) × ((l' : ℕ) → l ≤ l' → HasNoMisfit (run_from l' n m left (spent + 1) u))) → (l : ℕ) (w : Turn) → Goes w → ((l' : ℕ) → l ≤ l' → turn l' c.place t ≡ w)
-        → (l : ℕ) × ((l' : ℕ) → l ≤ l' → HasNoMisfit (on_turn (turn l' c.place t) (λ next. run_from l' n m left (spent + 1) next) (unbounded (direction n c t) (spent + 1)) (λ w. wide_at (spent + 1) w)))
+    act : (c : Column) → ((u : Table) → (l : ℕ) × ((l' : ℕ) → l ≤ l' → HasNoMisfit (run_from l' n m left (spent + 1) u))) → (l : ℕ) (w : PivotEnd) → Goes w → ((l' : ℕ) → l ≤ l' → pivoted l' c.place t ≡ w)
+        → (l : ℕ) × ((l' : ℕ) → l ≤ l' → HasNoMisfit (on_pivot (pivoted l' c.place t) (λ next. run_from l' n m left (spent + 1) next) (unbounded (direction n c t) (spent + 1)) (λ w. wide_at (spent + 1) w)))
     act c later l (moved u) goes h = let v = later u in (l + v.0, λ l' low. let p = h l' (omega (arith, low)) in rw p (v.1 l' (omega (arith, low))))
     act c later l unlimited goes h = (l, λ l' low. let p = h l' low in rw p tt)
     act c later l (stopped w) goes h = absurd goes
 
     step : (o : Option Column) → ((u : Table) → (l : ℕ) × ((l' : ℕ) → l ≤ l' → HasNoMisfit (run_from l' n m left (spent + 1) u)))
-        → (l : ℕ) × ((l' : ℕ) → l ≤ l' → HasNoMisfit (on_entering o (read_off n m t spent) (λ c. on_turn (turn l' c.place t) (λ next. run_from l' n m left (spent + 1) next) (unbounded (direction n c t) (spent + 1)) (λ w. wide_at (spent + 1) w))))
+        → (l : ℕ) × ((l' : ℕ) → l ≤ l' → HasNoMisfit (on_entering o (read_off n m t spent) (λ c. on_pivot (pivoted l' c.place t) (λ next. run_from l' n m left (spent + 1) next) (unbounded (direction n c t) (spent + 1)) (λ w. wide_at (spent + 1) w))))
     step None later = (0, λ l' low. read_fits n m spent t)
-    step (Some c) later = let v = turn_fits c.place t in act c later v.0 v.1 v.2 v.3
+    step (Some c) later = let v = pivot_fits c.place t in act c later v.0 v.1 v.2 v.3
 
 found : (limit : ℕ) (p : LinearProgram) (w : Ending Optimum) → IsProgram p → run limit p (choose (p.variables + p.rows) p.rows) 0 ≡ w → HasNoMisfit w → IsFound w
 found limit p (done (optimum x y reduced value) units) g h k = tt

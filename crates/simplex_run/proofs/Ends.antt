@@ -15,14 +15,14 @@ use Rattle.simplex_run.specs.Places.{at}
 use Rattle.simplex_run.specs.Table.{Row, Table, entries_at, where_basic, basic_at}
 use Rattle.simplex_run.specs.Choice.{Column, entering}
 use Rattle.simplex_run.specs.Ending.{Ending, unbounded, wide_at, no_unit_left}
-use Rattle.simplex_run.specs.Run.{Optimum, Turn, moved, unlimited, stopped, turn, on_turn, on_entering, run_from, read_off, direction}
+use Rattle.simplex_run.specs.Run.{Optimum, PivotEnd, moved, unlimited, stopped, pivoted, on_pivot, on_entering, run_from, read_off, direction}
 use Rattle.simplex_run.specs.Tableau.{Tableau, IsFeasible}
 
--- ---- a property of tables that each turn keeps, and what it makes of the end
+-- ---- a property of tables that each pivot keeps, and what it makes of the end
 pub run_keeps : (P : Table → Type 0) (E : Ending Optimum → Type 0) (limit n m : ℕ)
-    → ((t u : Table) (c : Column) → P t → entering t ≡ Some c → turn limit c.place t ≡ moved u → P u)
+    → ((t u : Table) (c : Column) → P t → entering t ≡ Some c → pivoted limit c.place t ≡ moved u → P u)
     → ((t : Table) (spent : ℕ) → P t → entering t ≡ None → E (read_off n m t spent))
-    → ((t : Table) (c : Column) (spent : ℕ) → P t → entering t ≡ Some c → turn limit c.place t ≡ unlimited → E (unbounded (direction n c t) spent))
+    → ((t : Table) (c : Column) (spent : ℕ) → P t → entering t ≡ Some c → pivoted limit c.place t ≡ unlimited → E (unbounded (direction n c t) spent))
     → ((spent : ℕ) (w : Wide) → E (wide_at spent w))
     → ((spent : ℕ) → E (no_unit_left spent))
     → (left spent : ℕ) (t : Table) → P t → E (run_from limit n m left spent t)
@@ -34,14 +34,14 @@ run_keeps P E limit n m kept ends rays stops outs zero spent t p = step (enterin
     step (Some c) h = outs spent
 run_keeps P E limit n m kept ends rays stops outs (suc left) spent t p = step (entering t) refl (λ u q. run_keeps P E limit n m kept ends rays stops outs left (spent + 1) u q)
   where
-    act : (c : Column) → entering t ≡ Some c → ((u : Table) → P u → E (run_from limit n m left (spent + 1) u)) → (w : Turn) → turn limit c.place t ≡ w → E (on_turn w (λ next. run_from limit n m left (spent + 1) next) (unbounded (direction n c t) (spent + 1)) (λ w. wide_at (spent + 1) w))
+    act : (c : Column) → entering t ≡ Some c → ((u : Table) → P u → E (run_from limit n m left (spent + 1) u)) → (w : PivotEnd) → pivoted limit c.place t ≡ w → E (on_pivot w (λ next. run_from limit n m left (spent + 1) next) (unbounded (direction n c t) (spent + 1)) (λ w. wide_at (spent + 1) w))
     act c h later (moved u) k = later u (kept t u c p h k)
     act c h later unlimited k = rays t c (spent + 1) p h k
     act c h later (stopped w) k = stops (spent + 1) w
 
-    step : (o : Option Column) → entering t ≡ o → ((u : Table) → P u → E (run_from limit n m left (spent + 1) u)) → E (on_entering o (read_off n m t spent) (λ c. on_turn (turn limit c.place t) (λ next. run_from limit n m left (spent + 1) next) (unbounded (direction n c t) (spent + 1)) (λ w. wide_at (spent + 1) w)))
+    step : (o : Option Column) → entering t ≡ o → ((u : Table) → P u → E (run_from limit n m left (spent + 1) u)) → E (on_entering o (read_off n m t spent) (λ c. on_pivot (pivoted limit c.place t) (λ next. run_from limit n m left (spent + 1) next) (unbounded (direction n c t) (spent + 1)) (λ w. wide_at (spent + 1) w)))
     step None h later = ends t spent p h
-    step (Some c) h later = act c h later (turn limit c.place t) refl
+    step (Some c) h later = act c h later (pivoted limit c.place t) refl
 
 -- what holds of the items of a list and of 0
 pub holds_at : (P : Fraction → Type 0) (xs : List Fraction) → P (whole (pos 0)) → ((j : ℕ) → j < length xs → P (at xs j)) → (j : ℕ) → P (at xs j)

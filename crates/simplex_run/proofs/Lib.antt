@@ -17,4 +17,4 @@ pub mod Endings
 pub mod Columns
 pub mod StepsOf
 pub mod UnitRows
-pub mod Turning
+pub mod Pivoting

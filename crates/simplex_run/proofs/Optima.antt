@@ -15,17 +15,17 @@ use Rattle.simplex_run.specs.Places.{at, values_at}
 use Rattle.simplex_run.specs.Program.{LinearProgram, row, column}
 use Rattle.simplex_run.specs.Table.{Row, Table, with_right, entries_at, entry_for, own_entry, no_entry, first_table, right_side, where_basic, basic_at}
 use Rattle.simplex_run.specs.Choice.{Column, entering, least}
-use Rattle.simplex_run.specs.Run.{moved, unlimited, turn, run, solution, dual, reduced_costs, price_of, value_of, read_off, direction}
+use Rattle.simplex_run.specs.Run.{moved, unlimited, pivoted, run, solution, dual, reduced_costs, reduced_cost_of, value_of, read_off, direction}
 use Rattle.simplex_run.specs.Optimum.{IsProgram, IsOptimum, IsDirection, AreNotBelowZero, IsAsSaid, EndsAreAsSaid}
 use Rattle.simplex_run.proofs.Entries.{IsTable, is_feasible, entry_has, right_entry}
 use Rattle.simplex_run.specs.Tableau.{tableau_of, Tableau, IsFeasible, HaveSameSolutions, Solves, row_at}
 use Rattle.simplex_run.proofs.Pivot.{point, row_at-point, point_solves, point_earns, tied_refl, tied_trans, tied_after, after_right}
-use Rattle.simplex_run.proofs.Choices.{Enters, moved_out, unlimited_out, unlimited_is, bland_turn, entering_out, entering_none, label_inside, entry_entering, price_entering, price_sign}
+use Rattle.simplex_run.proofs.Choices.{Enters, moved_out, unlimited_out, unlimited_is, bland_pivot, entering_out, entering_none, label_inside, entry_entering, price_entering, price_sign}
 use Rattle.simplex_run.proofs.FirstTable.{first_is_table, first_is_good, lowest-row, length-row, entry_variable, entry_slack, entry_right, price_variable, price_slack, price_last, basic_first}
 use Rattle.simplex_run.proofs.Listed.{listed_count, listed_at, listed_from}
 use Rattle.simplex_run.proofs.Ends.{run_keeps, holds_at, where_basic_lowest, where_basic_is, apart_of_good}
 
--- ---- what each turn keeps
+-- ---- what each pivot keeps
 pub record Keeps (p : LinearProgram) (t : Table) : Type 0 where
   pub table : IsTable p.variables p.rows t
   pub good : IsFeasible p.rows (p.variables + p.rows) (tableau_of t)
@@ -37,18 +37,18 @@ keeps_first p g = record { table = first_is_table p g; good = first_is_good p g;
 pub above_apart : (z : ℤ) → pos 0 <ℤ z → z ≡ pos 0 → ⊥
 above_apart z h e = omega (arith, ints, h, e)
 
-pub keeps_turn : (p : LinearProgram) (limit : ℕ) (t u : Table) (c : Column) → Keeps p t → entering t ≡ Some c → turn limit c.place t ≡ moved u → Keeps p u
-keeps_turn p limit t u c k enters h =
+pub keeps_pivot : (p : LinearProgram) (limit : ℕ) (t u : Table) (c : Column) → Keeps p t → entering t ≡ Some c → pivoted limit c.place t ≡ moved u → Keeps p u
+keeps_pivot p limit t u c k enters h =
     let n = p.variables in
     let m = p.rows in
     let N = n + m in
     let w = moved_out limit c.place t u h in
     let r = (least w.0 w.1).place in
-    let b = bland_turn limit n m t u c w.0 w.1 k.table enters w.2 w.3 in
+    let b = bland_pivot limit n m t u c w.0 w.1 k.table enters w.2 w.3 in
     record {
       table = b.0;
-      good = is_feasible n m u b.0 (after_right m N c.label r (tableau_of t) (tableau_of u) k.good b.1.choice b.1.turn);
-      tied = tied_trans m N (tableau_of (first_table p)) (tableau_of t) (tableau_of u) k.tied (tied_after m N c.label r (tableau_of t) (tableau_of u) b.1.choice b.1.turn);
+      good = is_feasible n m u b.0 (after_right m N c.label r (tableau_of t) (tableau_of u) k.good b.1.choice b.1.pivoted);
+      tied = tied_trans m N (tableau_of (first_table p)) (tableau_of t) (tableau_of u) k.tied (tied_after m N c.label r (tableau_of t) (tableau_of u) b.1.choice b.1.pivoted);
     }
 
 -- ---- the point of a table, entry by entry
@@ -157,10 +157,10 @@ part_at : (n i : ℕ) (xs : List Fraction) (j : ℕ) → j < n → at (take n (d
 part_at n i xs j h = get_or-take n (drop i xs) j (whole (pos 0)) h ∙ get_or-drop i xs j (whole (pos 0))
 
 -- the prices from variable i on
-prices_not_below : (n m i l : ℕ) (t : Table) → IsTable n m t → ((j : ℕ) → j < l → IsNotBelow0 ((tableau_of t).price (i + j))) → AreNotBelowZero l (values_at (price_of t) i l)
+prices_not_below : (n m i l : ℕ) (t : Table) → IsTable n m t → ((j : ℕ) → j < l → IsNotBelow0 ((tableau_of t).price (i + j))) → AreNotBelowZero l (values_at (reduced_cost_of t) i l)
 prices_not_below n m i l t g sign =
-    let at_place : (j : ℕ) → j < l → at (values_at (price_of t) i l) j ≡ price_of t (i + j) = λ j q. listed_from (price_of t) i l j q in
-    values_not_below l (values_at (price_of t) i l) (λ j. (tableau_of t).price (i + j)) (listed_count (price_of t) i l)
+    let at_place : (j : ℕ) → j < l → at (values_at (reduced_cost_of t) i l) j ≡ reduced_cost_of t (i + j) = λ j q. listed_from (reduced_cost_of t) i l j q in
+    values_not_below l (values_at (reduced_cost_of t) i l) (λ j. (tableau_of t).price (i + j)) (listed_count (reduced_cost_of t) i l)
     (λ j q. subst IsLowest (sym (at_place j q)) (entry_has IsLowest no_entry (with_right t.columns t.labels) t.objective (i + j) zero_lowest g.lowest_price))
     (λ j q. ap value (at_place j q)) sign
 
@@ -210,7 +210,7 @@ optimum_is p t g k h =
     let reads : AreNotBelowZero n (reduced_costs n t) = prices_not_below n m 0 n t k.table (λ j q. none (0 + j) (omega (arith, q))) in
     let solves : Solves m N (tableau_of (first_table p)) z = k.tied.back z (point_solves m N T N (neg_Q 1Q) k.good (omega arith)) in
     let last : z N ≡ neg_Q 1Q = point_outside m N T N (neg_Q 1Q) N (not_basic m N T k.good) ∙ ap (λ w. w *Q neg_Q 1Q) (unit-same N N refl) ∙ one_mul_Q _ in
-    let y_at : (i : ℕ) → i < m → value (at y i) ≡ T.price (n + i) = λ i q. ap value (listed_from (price_of t) n m i q) in
+    let y_at : (i : ℕ) → i < m → value (at y i) ≡ T.price (n + i) = λ i q. ap value (listed_from (reduced_cost_of t) n m i q) in
     let final : value (value_of t) ≡ T.price N = right no_entry t.objective k.table.width in
     record {
       x_sign = xs;
@@ -226,7 +226,7 @@ optimum_is p t g k h =
           let below : 0 < d.denominator = dot_below (column p j) y m (lowest-column p g j) ys in
           let low_c : IsLowest (at p.costs j) = g.costs.lowest j in
           value_same (at (reduced_costs n t) j) (plain_sum d (negated (at p.costs j))) (reads.lowest j).positive (mul-pos below low_c.positive)
-          (ap value (listed_at (price_of t) n j q)
+          (ap value (listed_at (reduced_cost_of t) n j q)
           ∙ dual_at p T g k.tied j (omega (arith, q))
           ∙ ap (λ w. w +Q (tableau_of (first_table p)).price j)
           (total-ext m _ (λ i. value (at (column p j) i) *Q T.price (n + i)) (λ i r. ap (λ w. w *Q T.price (n + i)) (column_at p g i j r q))
@@ -284,7 +284,7 @@ read_entry n m t c j g good enters apart = step (nat_eq j c.label) refl
               (λ i q. value_negated _ (g.lowest i c.place).positive ∙ ap neg_Q (sym (entry_entering n m t c (own_entry (basic_at t.rows i)) (entries_at t.rows i) g enters (g.widths i q)) ∙ sym (mul_1 _))) ne,
         )
 
-unlimited_holds : (limit : ℕ) (p : LinearProgram) (t : Table) (c : Column) → IsProgram p → Keeps p t → entering t ≡ Some c → turn limit c.place t ≡ unlimited → IsDirection p (direction p.variables c t)
+unlimited_holds : (limit : ℕ) (p : LinearProgram) (t : Table) (c : Column) → IsProgram p → Keeps p t → entering t ≡ Some c → pivoted limit c.place t ≡ unlimited → IsDirection p (direction p.variables c t)
 unfolding direction
 unlimited_holds limit p t c g k enters h =
     let n = p.variables in
@@ -327,4 +327,4 @@ ends_as_said p t spent g k h = optimum_is p t g k h
 pub ends_are_as_said : EndsAreAsSaid
 unfolding run
 ends_are_as_said limit p left spent g =
-    run_keeps (Keeps p) (IsAsSaid p) limit p.variables p.rows (λ t u c k enters h. keeps_turn p limit t u c k enters h) (λ t spent k h. ends_as_said p t spent g k h) (λ t c spent k enters h. unlimited_holds limit p t c g k enters h) (λ spent w. tt) (λ spent. tt) left spent (first_table p) (keeps_first p g)
+    run_keeps (Keeps p) (IsAsSaid p) limit p.variables p.rows (λ t u c k enters h. keeps_pivot p limit t u c k enters h) (λ t spent k h. ends_as_said p t spent g k h) (λ t c spent k enters h. unlimited_holds limit p t c g k enters h) (λ spent w. tt) (λ spent. tt) left spent (first_table p) (keeps_first p g)

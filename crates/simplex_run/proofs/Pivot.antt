@@ -1,4 +1,4 @@
--- A table as functions, one turn of it, and what a turn keeps.
+-- A table as functions, one pivot of it, and what a pivot keeps.
 use Rattle.std.proofs.Common.{◌≡◌, ℕ, suc, ◌<◌, ◌≤◌, arith, refl, sym, ◌∙◌, ap, subst, pos, ◌≤ℤ◌}
 use Rattle.std.proofs.Math.Decide.{ℕ_discrete}
 use Rattle.std.proofs.lemmas.Int.{ints, by_lt_z}
@@ -7,7 +7,7 @@ use Rattle.exact_num.proofs.Rationals.{add_0, zero_add_Q, mul_0, zero_mul_Q, mul
 use Rattle.exact_num.specs.Rationals.{Q, ◌+Q◌, ◌*Q◌, neg_Q, inv_Q, 0Q, 1Q, IsNotBelow0, IsAbove0, IsAtMost, total, unit, spread}
 use Rattle.exact_num.proofs.Totals.{total-ext, total-zero, total-add, total-mul, total-unit, total-spread}
 
--- ---- a turn keeps the right sides from falling below 0
+-- ---- a pivot keeps the right sides from falling below 0
 pub less_one : (x y : Q) → y ≡ 1Q → x +Q neg_Q (x *Q y) ≡ 0Q
 less_one x y e = ap (λ w. x +Q neg_Q (x *Q w)) e ∙ ap (λ w. x +Q neg_Q w) (mul_1 x) ∙ add_neg x
 

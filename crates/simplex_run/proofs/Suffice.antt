@@ -7,9 +7,9 @@ use Rattle.simplex_run.specs.Program.{LinearProgram}
 use Rattle.simplex_run.specs.Table.{Table, first_table, basic_at}
 use Rattle.simplex_run.specs.Choice.{Column, entering}
 use Rattle.simplex_run.specs.Ending.{no_unit_left, unbounded, wide_at}
-use Rattle.simplex_run.specs.Run.{Turn, moved, unlimited, stopped, turn, run, run_from, read_off, on_entering, on_turn, direction}
+use Rattle.simplex_run.specs.Run.{PivotEnd, moved, unlimited, stopped, pivoted, run, run_from, read_off, on_entering, on_pivot, direction}
 use Rattle.simplex_run.specs.Optimum.{IsProgram}
-use Rattle.simplex_run.specs.Turns.{table_after, HaveSameBasics}
+use Rattle.simplex_run.specs.Pivots.{table_after, HaveSameBasics}
 use Rattle.simplex_run.specs.Choose.{choose, UnitsSuffice}
 use Rattle.simplex_run.specs.Tableau.{tableau_of}
 use Rattle.simplex_run.proofs.Ends.{apart_of_good}
@@ -22,7 +22,7 @@ no_optimum : (n m : ℕ) (t : Table) (spent u : ℕ) → read_off n m t spent �
 unfolding read_off
 no_optimum n m t spent u h = cc
 
-next_is : (limit : ℕ) (p : LinearProgram) (k : ℕ) (c : Column) (t v : Table) → table_after limit p k ≡ Some t → entering t ≡ Some c → turn limit c.place t ≡ moved v → table_after limit p (suc k) ≡ Some v
+next_is : (limit : ℕ) (p : LinearProgram) (k : ℕ) (c : Column) (t v : Table) → table_after limit p k ≡ Some t → entering t ≡ Some c → pivoted limit c.place t ≡ moved v → table_after limit p (suc k) ≡ Some v
 next_is limit p k c t v here enters step = sym (after_suc limit p k) ∙ rw (here, enters, step) refl
 
 budget_out : (limit : ℕ) (p : LinearProgram) (left spent k : ℕ) (t : Table) (u : ℕ) → table_after limit p k ≡ Some t → run_from limit p.variables p.rows left spent t ≡ no_unit_left u → (v : Table) × (table_after limit p (k + left) ≡ Some v)
@@ -30,15 +30,15 @@ unfolding run_from
 budget_out limit p zero spent k t u here h = let e : k + 0 ≡ k = omega arith in (t, ap (table_after limit p) e ∙ here)
 budget_out limit p (suc left) spent k t u here h = step (entering t) refl h (λ v there goes. budget_out limit p left (spent + 1) (suc k) v u there goes)
   where
-    act : (c : Column) → entering t ≡ Some c → (w : Turn) → turn limit c.place t ≡ w → on_turn w (λ next. run_from limit p.variables p.rows left (spent + 1) next) (unbounded (direction p.variables c t) (spent + 1)) (λ w. wide_at (spent + 1) w) ≡ no_unit_left u → (v : Table) × (table_after limit p (suc k) ≡ Some v) × (run_from limit p.variables p.rows left (spent + 1) v ≡ no_unit_left u)
-    act c enters (moved v) turns goes = (v, next_is limit p k c t v here enters turns, goes)
-    act c enters unlimited turns goes = cc
-    act c enters (stopped w) turns goes = cc
+    act : (c : Column) → entering t ≡ Some c → (w : PivotEnd) → pivoted limit c.place t ≡ w → on_pivot w (λ next. run_from limit p.variables p.rows left (spent + 1) next) (unbounded (direction p.variables c t) (spent + 1)) (λ w. wide_at (spent + 1) w) ≡ no_unit_left u → (v : Table) × (table_after limit p (suc k) ≡ Some v) × (run_from limit p.variables p.rows left (spent + 1) v ≡ no_unit_left u)
+    act c enters (moved v) pivots goes = (v, next_is limit p k c t v here enters pivots, goes)
+    act c enters unlimited pivots goes = cc
+    act c enters (stopped w) pivots goes = cc
 
-    step : (o : Option Column) → entering t ≡ o → on_entering o (read_off p.variables p.rows t spent) (λ c. on_turn (turn limit c.place t) (λ next. run_from limit p.variables p.rows left (spent + 1) next) (unbounded (direction p.variables c t) (spent + 1)) (λ w. wide_at (spent + 1) w)) ≡ no_unit_left u → ((v : Table) → table_after limit p (suc k) ≡ Some v → run_from limit p.variables p.rows left (spent + 1) v ≡ no_unit_left u → (z : Table) × (table_after limit p (suc k + left) ≡ Some z)) → (v : Table) × (table_after limit p (k + suc left) ≡ Some v)
+    step : (o : Option Column) → entering t ≡ o → on_entering o (read_off p.variables p.rows t spent) (λ c. on_pivot (pivoted limit c.place t) (λ next. run_from limit p.variables p.rows left (spent + 1) next) (unbounded (direction p.variables c t) (spent + 1)) (λ w. wide_at (spent + 1) w)) ≡ no_unit_left u → ((v : Table) → table_after limit p (suc k) ≡ Some v → run_from limit p.variables p.rows left (spent + 1) v ≡ no_unit_left u → (z : Table) × (table_after limit p (suc k + left) ≡ Some z)) → (v : Table) × (table_after limit p (k + suc left) ≡ Some v)
     step None enters goes later = absurd (no_optimum p.variables p.rows t spent u goes)
     step (Some c) enters goes later =
-        let w = act c enters (turn limit c.place t) refl goes in
+        let w = act c enters (pivoted limit c.place t) refl goes in
         let r = later w.0 w.1 w.2 in
         let same : k + suc left ≡ suc k + left = omega arith in
         (r.0, ap (table_after limit p) same ∙ r.1)

@@ -9,26 +9,26 @@ use Rattle.simplex_run.specs.Program.{LinearProgram}
 use Rattle.simplex_run.specs.Table.{Row, Table, label_at, with_right, entries_at, basic_at, first_table, right_side, row_of}
 use Rattle.simplex_run.specs.Choice.{Ratio, Column, entering, ratio_in, ratios, least, join_ratio}
 use Rattle.exact_num.specs.Tests.{is_above_zero}
-use Rattle.simplex_run.specs.Pivot.{divided, less_product, cleared, row_after, rows_after, after_pivot}
+use Rattle.simplex_run.specs.Pivot.{divided, less_product, eliminated, row_after, rows_after, after_pivot}
 use Rattle.simplex_run.specs.Ending.{Ending, unbounded, wide_at, HasNoMisfit}
-use Rattle.simplex_run.specs.Run.{Optimum, Turn, moved, unlimited, stopped, turn, on_entering, on_turn, read_off, direction, run_from, run}
+use Rattle.simplex_run.specs.Run.{Optimum, PivotEnd, moved, unlimited, stopped, pivoted, on_entering, on_pivot, read_off, direction, run_from, run}
 use Rattle.simplex_run.specs.Limits.{SameWithGreaterLimit}
-use Rattle.simplex_run.specs.Turns.{table_after, BasicsDiffer}
+use Rattle.simplex_run.specs.Pivots.{table_after, BasicsDiffer}
 use Rattle.exact_num.proofs.After.{after_value, after_more}
 use Rattle.exact_num.proofs.GreaterLimit.{add_more, mul_more, div_more}
 use Rattle.simplex_run.proofs.StepsOf.{steps_more}
 use Rattle.simplex_run.proofs.Choices.{moved_out, unlimited_out}
 use Rattle.simplex_run.proofs.Tables.{next_out, basics_differ_at}
 
--- ---- the steps of a row, of the rows, and of a turn
+-- ---- the steps of a row, of the rows, and of a pivot
 divided_more : (l l' c : ℕ) (labels : List ℕ) (xs ys : List Fraction) → l ≤ l' → divided l c labels xs ≡ Ok ys → divided l' c labels xs ≡ Ok ys
 unfolding divided
 divided_more l l' c labels xs ys h =
     let x : ℕ → Fraction = at (set xs c (whole (pos 1))) in
     steps_more (λ k. div_of l (x k) (at xs c)) (λ k. div_of l' (x k) (at xs c)) (λ k y. div_more l l' (x k) (at xs c) y h) labels ys
 
-cleared_more : (l l' c : ℕ) (labels : List ℕ) (pivot xs ys : List Fraction) → l ≤ l' → cleared l c labels pivot xs ≡ Ok ys → cleared l' c labels pivot xs ≡ Ok ys
-unfolding cleared
+cleared_more : (l l' c : ℕ) (labels : List ℕ) (pivot xs ys : List Fraction) → l ≤ l' → eliminated l c labels pivot xs ≡ Ok ys → eliminated l' c labels pivot xs ≡ Ok ys
+unfolding eliminated
 cleared_more l l' c labels pivot xs ys h =
     let x : ℕ → Fraction = at (set xs c fraction_zero) in
     let f = at xs c in
@@ -39,9 +39,9 @@ cleared_more l l' c labels pivot xs ys h =
 row_more : (l l' c : ℕ) (labels : List ℕ) (e r : ℕ) (pivot : List Fraction) (i : ℕ) (row u : Row) → l ≤ l' → row_after l c labels e r pivot i row ≡ Ok u → row_after l' c labels e r pivot i row ≡ Ok u
 row_more l l' c labels e r pivot i row u h k = step (nat_eq i r) k
   where
-    step : (b : Bool) → (if b then Ok (row_of e pivot) else after (cleared l c labels pivot row.entries) (λ es. Ok (row_of row.basic es))) ≡ Ok u → (if b then Ok (row_of e pivot) else after (cleared l' c labels pivot row.entries) (λ es. Ok (row_of row.basic es))) ≡ Ok u
+    step : (b : Bool) → (if b then Ok (row_of e pivot) else after (eliminated l c labels pivot row.entries) (λ es. Ok (row_of row.basic es))) ≡ Ok u → (if b then Ok (row_of e pivot) else after (eliminated l' c labels pivot row.entries) (λ es. Ok (row_of row.basic es))) ≡ Ok u
     step true k = k
-    step false k = after_more (cleared l c labels pivot row.entries) (cleared l' c labels pivot row.entries) (λ es. Ok (row_of row.basic es)) (λ es. Ok (row_of row.basic es)) u (λ a. cleared_more l l' c labels pivot row.entries a h) (λ a b e. e) k
+    step false k = after_more (eliminated l c labels pivot row.entries) (eliminated l' c labels pivot row.entries) (λ es. Ok (row_of row.basic es)) (λ es. Ok (row_of row.basic es)) u (λ a. cleared_more l l' c labels pivot row.entries a h) (λ a b e. e) k
 
 rows_after_more : (l l' c : ℕ) (labels : List ℕ) (e r : ℕ) (pivot : List Fraction) (i : ℕ) (rows us : List Row) → l ≤ l' → rows_after l c labels e r pivot i rows ≡ Ok us → rows_after l' c labels e r pivot i rows ≡ Ok us
 unfolding rows_after
@@ -57,7 +57,7 @@ pivoted_more l l' c r t u h k =
     let e = label_at t.labels c in
     let a = after_value (divided l c ks (entries_at t.rows r)) _ u k in
     let b = after_value (rows_after l c ks e r a.value 0 t.rows) _ u a.rest in
-    let o = after_value (cleared l c ks a.value t.objective) _ u b.rest in
+    let o = after_value (eliminated l c ks a.value t.objective) _ u b.rest in
     let a' = divided_more l l' c ks (entries_at t.rows r) a.value h a.first in
     let b' = rows_after_more l l' c ks e r a.value 0 t.rows b.value h b.first in
     let o' = cleared_more l l' c ks a.value t.objective o.value h o.first in
@@ -78,16 +78,16 @@ ratios_more l l' width c i (row ∷ rows) qs h k =
     after_more (ratio_in l width c row.entries) (ratio_in l' width c row.entries) (λ q. after (ratios l width c (i + 1) rows) (λ qs. Ok (join_ratio i row.basic q qs))) (λ q. after (ratios l' width c (i + 1) rows) (λ qs. Ok (join_ratio i row.basic q qs))) qs (λ a. ratio_more l l' width c row.entries a h)
     (λ a zs. after_more (ratios l width c (i + 1) rows) (ratios l' width c (i + 1) rows) (λ qs. Ok (join_ratio i row.basic a qs)) (λ qs. Ok (join_ratio i row.basic a qs)) zs (λ b. ratios_more l l' width c (i + 1) rows b h) (λ d b e. e)) k
 
-turn_more : (l l' c : ℕ) (t u : Table) → l ≤ l' → turn l c t ≡ moved u → turn l' c t ≡ moved u
-unfolding turn
-turn_more l l' c t u h k =
+pivot_more : (l l' c : ℕ) (t u : Table) → l ≤ l' → pivoted l c t ≡ moved u → pivoted l' c t ≡ moved u
+unfolding pivoted
+pivot_more l l' c t u h k =
     let w = moved_out l c t u k in
     let f = ratios_more l l' (length t.labels) c 0 t.rows (w.0 ∷ w.1) h w.2 in
     let g = pivoted_more l l' c (least w.0 w.1).place t u h w.3 in
     rw (f, g) refl
 
-unlimited_more : (l l' c : ℕ) (t : Table) → l ≤ l' → turn l c t ≡ unlimited → turn l' c t ≡ unlimited
-unfolding turn
+unlimited_more : (l l' c : ℕ) (t : Table) → l ≤ l' → pivoted l c t ≡ unlimited → pivoted l' c t ≡ unlimited
+unfolding pivoted
 unlimited_more l l' c t h k = let f = ratios_more l l' (length t.labels) c 0 t.rows [] h (unlimited_out l c t k) in rw f refl
 
 -- ---- the run
@@ -99,19 +99,19 @@ run_more l l' n m (suc left) spent t h k = step (entering t) k (λ u. run_more l
     go : ℕ → Table → Ending Optimum
     go limit next = run_from limit n m left (spent + 1) next
 
-    act : (c : Column) (w : Turn) → turn l c.place t ≡ w → HasNoMisfit (on_turn w (go l) (unbounded (direction n c t) (spent + 1)) (λ w. wide_at (spent + 1) w))
+    act : (c : Column) (w : PivotEnd) → pivoted l c.place t ≡ w → HasNoMisfit (on_pivot w (go l) (unbounded (direction n c t) (spent + 1)) (λ w. wide_at (spent + 1) w))
         → ((u : Table) → HasNoMisfit (go l u) → go l' u ≡ go l u)
-        → on_turn (turn l' c.place t) (go l') (unbounded (direction n c t) (spent + 1)) (λ w. wide_at (spent + 1) w) ≡ on_turn w (go l) (unbounded (direction n c t) (spent + 1)) (λ w. wide_at (spent + 1) w)
-    act c (moved u) f k later = let g = turn_more l l' c.place t u h f in rw g (later u k)
+        → on_pivot (pivoted l' c.place t) (go l') (unbounded (direction n c t) (spent + 1)) (λ w. wide_at (spent + 1) w) ≡ on_pivot w (go l) (unbounded (direction n c t) (spent + 1)) (λ w. wide_at (spent + 1) w)
+    act c (moved u) f k later = let g = pivot_more l l' c.place t u h f in rw g (later u k)
     act c unlimited f k later = let g = unlimited_more l l' c.place t h f in rw g refl
     act c (stopped w) f k later = absurd k
 
-    step : (o : Option Column) → HasNoMisfit (on_entering o (read_off n m t spent) (λ c. on_turn (turn l c.place t) (go l) (unbounded (direction n c t) (spent + 1)) (λ w. wide_at (spent + 1) w)))
+    step : (o : Option Column) → HasNoMisfit (on_entering o (read_off n m t spent) (λ c. on_pivot (pivoted l c.place t) (go l) (unbounded (direction n c t) (spent + 1)) (λ w. wide_at (spent + 1) w)))
         → ((u : Table) → HasNoMisfit (go l u) → go l' u ≡ go l u)
-        → on_entering o (read_off n m t spent) (λ c. on_turn (turn l' c.place t) (go l') (unbounded (direction n c t) (spent + 1)) (λ w. wide_at (spent + 1) w))
-        ≡ on_entering o (read_off n m t spent) (λ c. on_turn (turn l c.place t) (go l) (unbounded (direction n c t) (spent + 1)) (λ w. wide_at (spent + 1) w))
+        → on_entering o (read_off n m t spent) (λ c. on_pivot (pivoted l' c.place t) (go l') (unbounded (direction n c t) (spent + 1)) (λ w. wide_at (spent + 1) w))
+        ≡ on_entering o (read_off n m t spent) (λ c. on_pivot (pivoted l c.place t) (go l) (unbounded (direction n c t) (spent + 1)) (λ w. wide_at (spent + 1) w))
     step None k later = refl
-    step (Some c) k later = act c (turn l c.place t) refl k later
+    step (Some c) k later = act c (pivoted l c.place t) refl k later
 
 pub same_with_greater_limit : SameWithGreaterLimit
 unfolding run
@@ -124,7 +124,7 @@ table_more l l' p zero t h k = k
 table_more l l' p (suc i) t h k =
     let w = next_out l (table_after l p i) t k in
     let before = table_more l l' p i w.0 h w.1 in
-    let step = turn_more l l' w.2.place w.0 t h w.4 in
+    let step = pivot_more l l' w.2.place w.0 t h w.4 in
     let enters = w.3 in
     rw (before, enters, step) refl
 

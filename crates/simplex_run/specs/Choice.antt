@@ -1,4 +1,4 @@
--- The choices of a turn by Bland's rule: the entering column, the ratio test, the leaving row.
+-- The choices of a pivot by Bland's rule: the entering column, the ratio test, the leaving row.
 use Rattle.std.specs.Prelude.{ℕ, ◌+◌, List, [], ◌∷◌, if◌then◌else◌, nat_lt, Option, Some, None, Result, Ok}
 use Rattle.std.specs.declared.cmp.Ordering.{Ordering}
 use Rattle.std.specs.declared.cmp.Ordering.TheVariants.{Less, Equal, Greater}

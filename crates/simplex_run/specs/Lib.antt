@@ -7,7 +7,7 @@ pub mod Ending
 pub mod Run
 pub mod Units
 pub mod Optimum
-pub mod Turns
+pub mod Pivots
 pub mod Tableau
 pub mod Choose
 pub mod Limits

@@ -42,14 +42,14 @@ abbrev pub less_product : ℕ → Fraction → Fraction → Fraction → Result 
 less_product limit f x p = after (mul_of limit f p) (λ product. sub_of limit x product)
 
 -- another row, in which it has the entry 0, less the pivot row as often as its entry in column c
-unfoldable pub cleared : ℕ → ℕ → List ℕ → List Fraction → List Fraction → Result (List Fraction) Wide
-cleared limit c labels pivot entries =
+unfoldable pub eliminated : ℕ → ℕ → List ℕ → List Fraction → List Fraction → Result (List Fraction) Wide
+eliminated limit c labels pivot entries =
     told (steps_of (λ k. less_product limit (at entries c) (at (slice_set entries c fraction_zero) k) (at pivot k)) 0 labels)
 
 -- row i where variable e enters in row r
 abbrev pub row_after : ℕ → ℕ → List ℕ → ℕ → ℕ → List Fraction → ℕ → Row → Result Row Wide
 row_after limit c labels e r pivot i row =
-    let other = after (cleared limit c labels pivot row.entries) (λ es. Ok (row_of row.basic es)) in
+    let other = after (eliminated limit c labels pivot row.entries) (λ es. Ok (row_of row.basic es)) in
     if nat_eq i r then Ok (row_of e pivot) else other
 
 -- the rows in rising order, the first row being row i
@@ -64,7 +64,7 @@ abbrev pub pivoted_to : ℕ → ℕ → ℕ → List ℕ → Table → Result Ta
 pivoted_to limit c r labels t =
     after (divided limit c (with_right t.columns labels) (entries_at t.rows r))
     (λ pivot. after (rows_after limit c (with_right t.columns labels) (label_at t.labels c) r pivot 0 t.rows)
-    (λ rows. after (cleared limit c (with_right t.columns labels) pivot t.objective)
+    (λ rows. after (eliminated limit c (with_right t.columns labels) pivot t.objective)
     (λ objective. Ok (record { columns = t.columns; labels = labels; rows = rows; objective = objective }))))
 
 unfoldable pub after_pivot : ℕ → ℕ → ℕ → Table → Result Table Wide

@@ -1,11 +1,11 @@
--- The simplex method as textbooks say it, over the rationals and without a limit: a tableau, a turn
+-- The simplex method as textbooks say it, over the rationals and without a limit: a tableau, a pivot
 -- of it, and Bland's rule. (Chvatal, Linear Programming, chapters 2, 3 and 8.)
 use Rattle.std.specs.Prelude.{◌≡◌, ℕ, suc, ◌+◌, ◌<◌, ◌≤◌, Some}
 use Rattle.exact_num.specs.Rationals.{Q, ◌+Q◌, ◌*Q◌, neg_Q, inv_Q, 0Q, value, IsNotBelow0, IsAbove0, IsBelow0, IsAtMost, total, unit}
 use Rattle.simplex_run.specs.Program.{LinearProgram}
 use Rattle.simplex_run.specs.Table.{Table, entries_at, basic_at, with_right, entry_for, own_entry, no_entry, first_table}
 use Rattle.simplex_run.specs.Optimum.{IsProgram}
-use Rattle.simplex_run.specs.Turns.{table_after}
+use Rattle.simplex_run.specs.Pivots.{table_after}
 
 -- ---- the tableau
 -- the entry of each row in each column, the right side in column n; the basic variables; the
@@ -43,11 +43,11 @@ pub record IsAfterPivot (m n e r : ℕ) (T U : Tableau) : Type 0 where
   pub enters : U.basic r ≡ e
   pub stays : (i : ℕ) → i < m → (i ≡ r → ⊥) → U.basic i ≡ T.basic i
 
--- a turn by Bland's rule: the first column with a price below 0 enters, and of the least ratios the
+-- a pivot by Bland's rule: the first column with a price below 0 enters, and of the least ratios the
 -- smallest basic variable leaves
-pub record IsBlandTurn (m n e r : ℕ) (T U : Tableau) : Type 0 where
+pub record IsBlandPivot (m n e r : ℕ) (T U : Tableau) : Type 0 where
   pub choice : IsPivot m n e r T
-  pub turn : IsAfterPivot m n e r T U
+  pub pivoted : IsAfterPivot m n e r T U
   pub first : (j : ℕ) → j < e → IsNotBelow0 (T.price j)
   pub ties : (i : ℕ) → i < m → IsAbove0 (T.entry i e) → ratio T n e r ≡ ratio T n e i → T.basic r ≤ T.basic i
 
@@ -83,9 +83,9 @@ pub record IsTableOf (p : LinearProgram) (t : Table) : Type 0 where
 abbrev pub TablesAreFeasible : Type 0
 TablesAreFeasible = (limit k : ℕ) (p : LinearProgram) (t : Table) → IsProgram p → table_after limit p k ≡ Some t → IsTableOf p t
 
--- and each turn of a run is one by Bland's rule
-abbrev pub TurnsAreByBlandsRule : Type 0
-TurnsAreByBlandsRule =
+-- and each pivot of a run is one by Bland's rule
+abbrev pub PivotsAreByBlandsRule : Type 0
+PivotsAreByBlandsRule =
     (limit k : ℕ) (p : LinearProgram) (t u : Table) → IsProgram p
     → table_after limit p k ≡ Some t → table_after limit p (suc k) ≡ Some u
-    → (e : ℕ) × (r : ℕ) × IsBlandTurn p.rows (p.variables + p.rows) e r (tableau_of t) (tableau_of u)
+    → (e : ℕ) × (r : ℕ) × IsBlandPivot p.rows (p.variables + p.rows) e r (tableau_of t) (tableau_of u)

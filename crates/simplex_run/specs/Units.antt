@@ -11,7 +11,7 @@ units_of (unbounded d units) = units
 units_of (wide_at units wide) = units
 units_of (no_unit_left units) = units
 
--- of `left` units, after `spent` units: a last turn without a limit or with a misfit spends its
+-- of `left` units, after `spent` units: a last pivot without a limit or with a misfit spends its
 -- own, and the budget stops a run only where no unit is left
 abbrev pub IsCounted : {A : Type 0} → ℕ → ℕ → Ending A → Type 0
 IsCounted left spent (done answer units) = (spent ≤ units) × (units ≤ spent + left)

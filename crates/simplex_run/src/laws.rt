@@ -2,8 +2,8 @@
 ghost use Rattle.simplex_run.specs.Choose.{UnitsSuffice};
 ghost use Rattle.simplex_run.specs.Limits.{RunsEnd, SameWithGreaterLimit};
 ghost use Rattle.simplex_run.specs.Optimum.{EndsAreAsSaid};
-ghost use Rattle.simplex_run.specs.Tableau.{TablesAreFeasible, TurnsAreByBlandsRule};
-ghost use Rattle.simplex_run.specs.Turns.{BasicsDiffer};
+ghost use Rattle.simplex_run.specs.Tableau.{TablesAreFeasible, PivotsAreByBlandsRule};
+ghost use Rattle.simplex_run.specs.Pivots.{BasicsDiffer};
 ghost use Rattle.simplex_run.specs.Units.{UnitsAreCounted};
 ghost use Rattle.simplex_run.specs.Worked.{WorkedProgramsEnd};
 
@@ -14,7 +14,7 @@ pub fn runs_end_as_said()
     ensures { EndsAreAsSaid }
 {}
 
-/// A run spends a unit a turn, the last one too, and stops for want of units only where none is
+/// A run spends a unit a pivot, the last one too, and stops for want of units only where none is
 /// left.
 pub fn units_are_counted()
     ensures { UnitsAreCounted }
@@ -26,11 +26,11 @@ pub fn tables_are_feasible()
     ensures { TablesAreFeasible }
 {}
 
-/// And each turn is a turn of the simplex method by Bland's rule: the first column whose objective
+/// And each pivot is a pivot of the simplex method by Bland's rule: the first column whose objective
 /// entry is below 0 enters, and of the rows of the least ratio that of the smallest basic variable
 /// leaves. (Chvatal, Linear Programming, chapters 2 and 3.)
-pub fn turns_are_by_blands_rule()
-    ensures { TurnsAreByBlandsRule }
+pub fn pivots_are_by_blands_rule()
+    ensures { PivotsAreByBlandsRule }
 {}
 
 /// The tables of a run without a limit have pairwise different sets of basic variables: Bland's

@@ -3,4 +3,4 @@ use Rattle.cases_sums.proofs.Found.{found_if}
 use Rattle.cases_sums.proofs.programs.value_of_both.Goals as goal
 
 pub value-requires : goal.value-requires
-value-requires g = found_if _ _ _ _ g.run-found.ensures.holds g.run-found.ensures.answer g.run-found.ensures.contents (search rules)
+value-requires g = found_if _ _ _ _ g.run-found.ensures.holds g.run-found.ensures.run.answer g.run-found.ensures.run.contents (search rules)

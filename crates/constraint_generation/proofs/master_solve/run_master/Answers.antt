@@ -30,7 +30,7 @@ returns-in_err-run-clause-run g c =
     let stop = c.in_err-run.field-0.0 in
     let e = run size (program_given contents) left budget.spent in
     let there = run_there limit size left budget.spent c.args.orders.now (map vector_of c.args.later.now) contents c.in_default.ensures.given in
-    rw (q.1, q.2) (stops_as _ e stop c.run.new.budget.spent there (run_stop e stop c.run.new.budget.spent (sym c.run.ensures.answer ∙ c.in_err-run.was) c.run.ensures.units))
+    rw (q.1, q.2) (stops_as _ e stop c.run.new.budget.spent there (run_stop e stop c.run.new.budget.spent (sym c.run.ensures.run.answer ∙ c.in_err-run.was) c.run.ensures.run.units))
 
 pub returns-clause-run : goal.returns-clause-run
 returns-clause-run g c =
@@ -45,7 +45,7 @@ returns-clause-run g c =
     let master = is_master limit size orders states contents c.in_default.ensures.given in
     let never : (d : List Fraction) (s : ℕ) → e ≡ unbounded d s → ⊥ = λ d s rises.
     master_is_bounded (zero_prices 1) orders states d (subst (λ (p : LinearProgram). IsDirection p d) master (subst (IsAsSaid (program_given contents)) rises c.run.ensures.holds)) in
-    let found = found_there e c.in_ok-run.field-0 c.run.new.self.contents c.run.new.budget.spent (sym c.run.ensures.answer ∙ c.in_ok-run.was) c.run.ensures.contents c.run.ensures.units never in
+    let found = found_there e c.in_ok-run.field-0 c.run.new.self.contents c.run.new.budget.spent (sym c.run.ensures.run.answer ∙ c.in_ok-run.was) c.run.ensures.run.contents c.run.ensures.run.units never in
     (found.0, there ∙ found.1)
 
 pub returns-clause-lengths : goal.returns-clause-lengths

@@ -3,7 +3,7 @@ use mir.Syntax.{w128}
 use Rattle.std.specs.Prelude.{Option, int_lt}
 use Rattle.std.proofs.lemmas.Int.{to_z-of_z}
 use Rattle.simplex_run.specs.Choice.{Column}
-use Rattle.run_equivalence.specs.WholeTurning.{least_column}
+use Rattle.run_equivalence.specs.WholePivoting.{least_column}
 use Rattle.fraction_tableau.specs.Labels.{with_column}
 use Rattle.integer_tableau.proofs.Choosing.{column, column_more, no_column, inside_of}
 use Rattle.integer_tableau.proofs.columns.least_column.Goals as goal

@@ -1,6 +1,6 @@
 use Rattle.std.proofs.Common.{◌≡◌, drop}
 use Rattle.std.specs.Option.{option_map}
-use Rattle.run_equivalence.specs.WholeTurning.{least_column}
+use Rattle.run_equivalence.specs.WholePivoting.{least_column}
 use Rattle.fraction_tableau.specs.Labels.{as_column}
 use Rattle.integer_tableau.proofs.columns.least_column.Given as goal
 

@@ -2,7 +2,7 @@ use Rattle.std.proofs.Common.{rules, sym, ◌∙◌, ap, drop, length, FitsSigne
 use Rattle.std.proofs.lemmas.Int.{to_z-of_z}
 use Rattle.arithmetic.specs.Gcd.{gcd}
 use mir.Syntax.{w128}
-use Rattle.run_equivalence.specs.WholeTurning.{common_of}
+use Rattle.run_equivalence.specs.WholePivoting.{common_of}
 use Rattle.integer_tableau.proofs.Numbers.{common_of_one, common_more, common_end}
 use Rattle.integer_tableau.proofs.divisor.common.Goals as goal
 

@@ -1,7 +1,7 @@
 use Rattle.std.proofs.Common.{rules, sym, ◌∙◌, ap, drop, length, FitsSigned, w64, arith, pos, ◌≤◌, ◌≡◌, ◌+◌, unsigned_abs, slice_index_or}
 use Rattle.std.proofs.lemmas.Int.{to_z-of_z}
 use Rattle.arithmetic.specs.Gcd.{gcd}
-use Rattle.run_equivalence.specs.WholeTurning.{common_of}
+use Rattle.run_equivalence.specs.WholePivoting.{common_of}
 use Rattle.integer_tableau.proofs.Numbers.{common_of_one, common_more, common_end}
 use Rattle.integer_tableau.proofs.divisor.common_short.Goals as goal
 

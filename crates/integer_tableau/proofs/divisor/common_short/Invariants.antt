@@ -1,5 +1,5 @@
 use Rattle.std.proofs.Common.{◌≡◌, ◌<◌, ◌≤◌, drop}
-use Rattle.run_equivalence.specs.WholeTurning.{common_of}
+use Rattle.run_equivalence.specs.WholePivoting.{common_of}
 use Rattle.integer_tableau.proofs.divisor.common_short.Given as goal
 
 -- what the rest has in common with what was found is what all have

@@ -1,6 +1,6 @@
 use Rattle.std.proofs.Common.{◌+◌, ◌∙◌, ap, arith, length, map, pos, int_div, take, ◌≤◌, ◌<◌, ◌≡◌, ℤ, List}
 use Rattle.std.proofs.lemmas.List.{length-map, length-set, get_or-set_other}
-use Rattle.run_equivalence.specs.Lines.{number_at}
+use Rattle.run_equivalence.specs.IntegerRows.{number_at}
 use Rattle.integer_tableau.proofs.Numbers.{written_more, written_all, at_map}
 use Rattle.integer_tableau.proofs.divisor.divide_numbers.Goals as goal
 

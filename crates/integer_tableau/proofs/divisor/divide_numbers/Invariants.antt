@@ -1,5 +1,5 @@
 use Rattle.std.proofs.Common.{◌≡◌, ◌≤◌, ℕ, take, length, map, pos, int_div}
-use Rattle.run_equivalence.specs.Lines.{number_at}
+use Rattle.run_equivalence.specs.IntegerRows.{number_at}
 use Rattle.integer_tableau.proofs.divisor.divide_numbers.Given as goal
 
 -- the first i numbers are divided, and the rest are as they were

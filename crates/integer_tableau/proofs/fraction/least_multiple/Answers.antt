@@ -1,5 +1,5 @@
 use Rattle.std.proofs.Common.{◌≡◌, ◌<◌, ◌+◌, ◌-◌, subst, arith, length, drop, map, ℕ}
-use Rattle.run_equivalence.specs.Lines.{least_multiple}
+use Rattle.run_equivalence.specs.IntegerRows.{least_multiple}
 use Rattle.integer_tableau.specs.Within.{HasMultiple}
 use Rattle.integer_tableau.proofs.Taken.{no_multiple, has_more}
 use Rattle.integer_tableau.proofs.fraction.least_multiple.Goals as goal

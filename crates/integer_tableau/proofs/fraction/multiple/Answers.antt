@@ -2,7 +2,7 @@ use Rattle.std.proofs.Common.{◌*◌, ◌/◌, ◌∙◌, ap, subst, sym, ◌<�
 use Rattle.std.proofs.Math.Nat.{mul-pos}
 use Rattle.arithmetic.specs.Gcd.{gcd}
 use Rattle.arithmetic.proofs.GcdLaws.{gcd_pos_right, gcd_dvd_right, pos_of_quotient}
-use Rattle.run_equivalence.specs.Lines.{multiple}
+use Rattle.run_equivalence.specs.IntegerRows.{multiple}
 use Rattle.integer_tableau.proofs.Taken.{multiple_one}
 use Rattle.integer_tableau.proofs.Eliminating.{shared_above}
 use Rattle.integer_tableau.proofs.fraction.multiple.Goals as goal

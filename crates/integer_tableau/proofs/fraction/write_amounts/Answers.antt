@@ -6,7 +6,7 @@ use Rattle.simplex_run.specs.Places.{fraction_zero}
 use Rattle.fraction_tableau.proofs.EntrySteps.{at-map}
 use Rattle.integer_tableau.proofs.Numbers.{written_more}
 use Rattle.integer_tableau.proofs.Turned.{sizes_more}
-use Rattle.run_equivalence.specs.Lines.{widest}
+use Rattle.run_equivalence.specs.IntegerRows.{widest}
 use Rattle.integer_tableau.proofs.fraction.write_amounts.Goals as goal
 
 pub loop-j-preserved : goal.loop-j-preserved

@@ -1,6 +1,6 @@
 use Rattle.std.proofs.Common.{◌≡◌, ◌<◌, ◌≤◌, ℕ, length, map, take, unsigned_abs}
 use Rattle.exact_num.specs.CommonDenominator.{signed_amounts_over}
-use Rattle.run_equivalence.specs.Lines.{widest, number_at}
+use Rattle.run_equivalence.specs.IntegerRows.{widest, number_at}
 use Rattle.integer_tableau.proofs.fraction.write_amounts.Given as goal
 
 -- the numbers before j are written, and 64 bits hold them

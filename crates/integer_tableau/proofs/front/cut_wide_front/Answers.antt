@@ -3,10 +3,10 @@ use mir.Syntax.{w128}
 use Rattle.std.proofs.lemmas.Int.{to_z-of_z, to_z_pos}
 use Rattle.std.proofs.lemmas.List.{length-take-le, length-drop}
 use borrow.Rule.Slice.PartMut.{put_mid}
-use Rattle.run_equivalence.specs.Lines.{Line, line_of, number_at}
-use Rattle.run_equivalence.specs.WholeTurning.{cut}
-use Rattle.run_equivalence.proofs.LineSteps.{cut_within}
-use Rattle.integer_tableau.specs.Rows.{line_in}
+use Rattle.run_equivalence.specs.IntegerRows.{IntegerRow, integer_row, number_at}
+use Rattle.run_equivalence.specs.WholePivoting.{cut}
+use Rattle.run_equivalence.proofs.IntegerRowSteps.{cut_within}
+use Rattle.integer_tableau.specs.Rows.{row_in}
 use Rattle.integer_tableau.proofs.Numbers.{held_128}
 use Rattle.integer_tableau.proofs.Turned.{front_of_mid, written_front}
 use Rattle.integer_tableau.proofs.front.cut_wide_front.Goals as goal
@@ -24,9 +24,9 @@ returns c =
     let ms = c.divide_common-below.new.numbers in
     let d = c.divide_common-below.result in
     let many : length ms ≡ w = c.divide_common-below.auto.numbers ∙ count in
-    let told : line_of d ms ≡ cut (line_in w row) = rw (size, wide) at c.divide_common-below.ensures in
-    let within = cut_within (2 ^ 127 - 1) w (line_in w row) c.requires.line in
-    let low : d ≤ 2 ^ 127 - 1 = subst (λ (k : ℕ). k ≤ 2 ^ 127 - 1) (sym (ap (λ (l : Line). l.denominator) told)) within.below in
+    let told : integer_row d ms ≡ cut (row_in w row) = rw (size, wide) at c.divide_common-below.ensures in
+    let within = cut_within (2 ^ 127 - 1) w (row_in w row) c.requires.line in
+    let low : d ≤ 2 ^ 127 - 1 = subst (λ (k : ℕ). k ≤ 2 ^ 127 - 1) (sym (ap (λ (l : IntegerRow). l.denominator) told)) within.below in
     let signed : to_z w128 d ≡ pos d = to_z_pos w128 d (omega (arith, low)) in
     let front = front_of_mid w (w + 1 - 1) row ms (omega (arith, c.requires.width)) many in
     let line = written_front w (put_mid 1 (w + 1 - 1) row ms) ms (number_at row 0) (pos d) front in
@@ -41,5 +41,5 @@ overflow_cast-row c =
     let fz : FitsSigned w128 first = search rules in
     let size : c.unsigned_abs-denominator.result ≡ unsigned_abs first = simp to_z-of_z at c.unsigned_abs-denominator.ensures.value in
     let d = c.divide_common-below.result in
-    let told : line_of d c.divide_common-below.new.numbers ≡ cut (line_in w row) = rw (size, wide) at c.divide_common-below.ensures in
-    held_128 (pos d) (subst (λ (k : ℕ). k ≤ 2 ^ 127 - 1) (sym (ap (λ (l : Line). l.denominator) told)) (cut_within (2 ^ 127 - 1) w (line_in w row) c.requires.line).below)
+    let told : integer_row d c.divide_common-below.new.numbers ≡ cut (row_in w row) = rw (size, wide) at c.divide_common-below.ensures in
+    held_128 (pos d) (subst (λ (k : ℕ). k ≤ 2 ^ 127 - 1) (sym (ap (λ (l : IntegerRow). l.denominator) told)) (cut_within (2 ^ 127 - 1) w (row_in w row) c.requires.line).below)

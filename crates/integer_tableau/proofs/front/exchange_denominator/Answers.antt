@@ -1,6 +1,6 @@
 use Rattle.std.proofs.Common.{◌≡◌, ◌∙◌, ◌+◌, sym, ap, arith, map, set, pos, unsigned_abs, ℤ, List}
 use Rattle.std.proofs.lemmas.List.{map-set}
-use Rattle.run_equivalence.specs.Lines.{number_at}
+use Rattle.run_equivalence.specs.IntegerRows.{number_at}
 use Rattle.integer_tableau.proofs.Words.{at_word}
 use Rattle.integer_tableau.proofs.front.exchange_denominator.Goals as goal
 

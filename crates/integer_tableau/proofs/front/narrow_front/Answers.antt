@@ -1,4 +1,4 @@
-use Rattle.run_equivalence.specs.Lines.{widest}
+use Rattle.run_equivalence.specs.IntegerRows.{widest}
 use Rattle.integer_tableau.proofs.Fronts.{front_fits}
 use Rattle.integer_tableau.proofs.front.narrow_front.Goals as goal
 

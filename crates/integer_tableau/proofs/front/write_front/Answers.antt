@@ -3,7 +3,7 @@ use mir.Syntax.{w128}
 use Rattle.std.proofs.lemmas.Int.{to_z_pos}
 use Rattle.std.proofs.lemmas.List.{get_or-set_same}
 use borrow.Rule.Slice.PartMut.{put_mid}
-use Rattle.run_equivalence.specs.Lines.{line_of, number_at}
+use Rattle.run_equivalence.specs.IntegerRows.{integer_row, number_at}
 use Rattle.integer_tableau.proofs.Turned.{front_of_mid, taken_front}
 use Rattle.integer_tableau.proofs.front.write_front.Goals as goal
 
@@ -21,4 +21,4 @@ returns c =
     let out = c.copy_from_slice.new.self in
     let copied = c.copy_from_slice.ensures.after in
     taken_front w (put_mid 1 (w + 1 - 1) row out) out (number_at row 0) (front_of_mid w (w + 1 - 1) row out some (ap length copied))
-    ∙ (λ i. line_of (unsigned_abs ((first ∙ signed) i)) (copied i))
+    ∙ (λ i. integer_row (unsigned_abs ((first ∙ signed) i)) (copied i))

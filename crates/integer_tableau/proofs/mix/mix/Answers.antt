@@ -1,6 +1,6 @@
 use Rattle.std.proofs.Common.{◌∙◌, ℤ, List, ap, arith, length, map, sym, subst, unsigned_abs}
 use Rattle.std.proofs.lemmas.List.{length-map}
-use Rattle.run_equivalence.specs.WholeTurning.{cross_difference}
+use Rattle.run_equivalence.specs.WholePivoting.{cross_difference}
 use Rattle.integer_tableau.specs.Within.{HasRoom}
 use Rattle.integer_tableau.proofs.Numbers.{mixed_after}
 use Rattle.integer_tableau.proofs.Words.{scaled_room}

@@ -1,5 +1,5 @@
 use Rattle.std.proofs.Common.{◌≡◌, ◌≤◌, ◌*ℤ◌, ℕ, take, length, map}
-use Rattle.run_equivalence.specs.Lines.{number_at}
+use Rattle.run_equivalence.specs.IntegerRows.{number_at}
 use Rattle.integer_tableau.proofs.mix.multiply.Given as goal
 
 -- the first i numbers are multiplied, and the rest are as they were

@@ -1,6 +1,6 @@
 use Rattle.std.proofs.Common.{◌∙◌, ◌≡◌, ◌≤◌, ◌+◌, ◌*◌, ◌-ℤ◌, ◌*ℤ◌, ap, sym, subst, map, set, ℤ, unsigned_abs}
 use Rattle.std.proofs.lemmas.List.{map-set}
-use Rattle.run_equivalence.specs.Lines.{number_at}
+use Rattle.run_equivalence.specs.IntegerRows.{number_at}
 use Rattle.integer_tableau.proofs.Words.{at_word}
 use Rattle.integer_tableau.proofs.mix.subtract_at.Goals as goal
 

@@ -2,7 +2,7 @@ use Rattle.std.proofs.Common.{◌<◌, ◌≤◌, ◌+◌, ◌*◌, ◌∙◌, a
 use Rattle.std.proofs.lemmas.List.{length-map, get_or-set_other}
 use Rattle.exact_num.specs.Fraction.{whole}
 use Rattle.fraction_tableau.proofs.Nonzero.{place_below}
-use Rattle.run_equivalence.specs.Lines.{number_at}
+use Rattle.run_equivalence.specs.IntegerRows.{number_at}
 use Rattle.integer_tableau.proofs.Sparse.{less_at, less_is, less_more, less_end, rising}
 use Rattle.integer_tableau.proofs.mix.subtract_multiple.Goals as goal
 

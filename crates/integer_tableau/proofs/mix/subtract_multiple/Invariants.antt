@@ -1,5 +1,5 @@
 use Rattle.std.proofs.Common.{◌≡◌, ◌<◌, ◌≤◌, ℕ, drop, length, map, slice_index_or}
-use Rattle.run_equivalence.specs.Lines.{number_at}
+use Rattle.run_equivalence.specs.IntegerRows.{number_at}
 use Rattle.integer_tableau.proofs.Sparse.{less_at}
 use Rattle.integer_tableau.proofs.mix.subtract_multiple.Given as goal
 

@@ -2,7 +2,7 @@ use Rattle.std.proofs.Common.{◌≡◌, ◌<◌, ◌≤◌, ◌∙◌, sym, ap,
 use mir.Syntax.{w128}
 use Rattle.std.proofs.lemmas.Int.{to_z-of_z}
 use Rattle.std.proofs.lemmas.Bool.{le-leb, lt-leb}
-use Rattle.run_equivalence.specs.Lines.{widest}
+use Rattle.run_equivalence.specs.IntegerRows.{widest}
 use Rattle.integer_tableau.proofs.Numbers.{fits_empty, fits_more, fits_stop}
 use Rattle.integer_tableau.proofs.wide.are_short.Goals as goal
 

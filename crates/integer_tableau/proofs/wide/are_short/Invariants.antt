@@ -1,5 +1,5 @@
 use Rattle.std.proofs.Common.{◌≡◌, take, true}
-use Rattle.run_equivalence.specs.Lines.{numbers_fit, widest}
+use Rattle.run_equivalence.specs.IntegerRows.{numbers_fit, widest}
 use Rattle.integer_tableau.proofs.wide.are_short.Given as goal
 
 -- the numbers so far fit

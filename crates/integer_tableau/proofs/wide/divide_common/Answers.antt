@@ -1,5 +1,5 @@
 use Rattle.std.proofs.Common.{◌/◌, ◌∙◌}
-use Rattle.run_equivalence.specs.Lines.{line_of}
+use Rattle.run_equivalence.specs.IntegerRows.{integer_row}
 use Rattle.integer_tableau.proofs.Cut.{common_above, common_below, cut_is}
 use Rattle.integer_tableau.proofs.wide.divide_common.Goals as goal
 
@@ -14,5 +14,5 @@ nonzero_div-result c = common_above c.args.denominator c.common-divisor.result c
 
 pub returns : goal.returns
 returns c =
-    (λ i. line_of (c.args.denominator / c.common-divisor.result) (c.divide_wide.ensures i))
+    (λ i. integer_row (c.args.denominator / c.common-divisor.result) (c.divide_wide.ensures i))
     ∙ cut_is c.args.denominator c.common-divisor.result c.args.numbers.now c.common-divisor.ensures

@@ -1,8 +1,8 @@
 use Rattle.std.proofs.Common.{◌<◌, ◌∙◌, sym, subst, arith, rules, length, length-set, slice_index_or, pos, w64, FitsSigned}
 use mir.Syntax.{w128}
 use Rattle.std.proofs.lemmas.Int.{to_z-of_z, fits_signed_from_abs}
-use Rattle.run_equivalence.proofs.LineSteps.{sizes_of_fit}
-use Rattle.run_equivalence.specs.Lines.{widest}
+use Rattle.run_equivalence.proofs.IntegerRowSteps.{sizes_of_fit}
+use Rattle.run_equivalence.specs.IntegerRows.{widest}
 use Rattle.integer_tableau.proofs.Numbers.{narrowed, written_more, written_all}
 use Rattle.integer_tableau.proofs.wide.narrow.Goals as goal
 

@@ -1,5 +1,5 @@
 use Rattle.std.proofs.Common.{ℕ, ◌<◌, ◌≤◌, unsigned_abs}
-use Rattle.run_equivalence.specs.Lines.{number_at}
+use Rattle.run_equivalence.specs.IntegerRows.{number_at}
 use Rattle.integer_tableau.proofs.wide.wide_size.Given as goal
 
 -- none of the first numbers is above it

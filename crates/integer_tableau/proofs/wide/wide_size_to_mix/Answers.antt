@@ -2,7 +2,7 @@ use Rattle.std.proofs.Common.{rules, ◌≡◌, unsigned_abs, FitsSigned}
 use Rattle.std.proofs.lemmas.Int.{to_z-of_z}
 use Rattle.std.proofs.lemmas.Option.{IfSome_then}
 use mir.Syntax.{w128}
-use Rattle.run_equivalence.specs.Lines.{line_of, line_size}
+use Rattle.run_equivalence.specs.IntegerRows.{integer_row, row_size}
 use Rattle.integer_tableau.proofs.Eliminating.{steps_above}
 use Rattle.integer_tableau.proofs.Numbers.{size_made}
 use Rattle.integer_tableau.proofs.wide.wide_size_to_mix.Goals as goal
@@ -13,7 +13,7 @@ returns-in-Some-clause-mixed c =
     let f : FitsSigned w128 c.args.factors.f = search rules in
     let times : c.unsigned_abs-times.result ≡ unsigned_abs c.args.factors.p = rw (to_z-of_z w128 c.args.factors.p p) at c.unsigned_abs-times.ensures.value in
     let less : c.unsigned_abs-less.result ≡ unsigned_abs c.args.factors.f = rw (to_z-of_z w128 c.args.factors.f f) at c.unsigned_abs-less.ensures.value in
-    steps_above (line_size (line_of c.args.denominator c.args.numbers.now)) c.args.kept c.in-Some.size (unsigned_abs c.args.factors.p) (unsigned_abs c.args.factors.f) c.args.known.most c.requires (rw (times, less) at c.in-Some.ensures.0)
+    steps_above (row_size (integer_row c.args.denominator c.args.numbers.now)) c.args.kept c.in-Some.size (unsigned_abs c.args.factors.p) (unsigned_abs c.args.factors.f) c.args.known.most c.requires (rw (times, less) at c.in-Some.ensures.0)
 
 pub returns-in-None-clause-mixed : goal.returns-in-None-clause-mixed
 returns-in-None-clause-mixed c =
@@ -23,4 +23,4 @@ returns-in-None-clause-mixed c =
     let less : c.unsigned_abs-less.result ≡ unsigned_abs c.args.factors.f = rw (to_z-of_z w128 c.args.factors.f f) at c.unsigned_abs-less.ensures.value in
     let anew = size_made c.wide_size.result c.args.denominator c.args.numbers.now c.wide_size.ensures in
     IfSome_then c.wide_mixed_size-in-None.result c.wide_mixed_size-in-None.ensures (λ size told.
-    steps_above (line_size (line_of c.args.denominator c.args.numbers.now)) _ size (unsigned_abs c.args.factors.p) (unsigned_abs c.args.factors.f) c.args.known.most anew (rw (times, less) at told.0))
+    steps_above (row_size (integer_row c.args.denominator c.args.numbers.now)) _ size (unsigned_abs c.args.factors.p) (unsigned_abs c.args.factors.f) c.args.known.most anew (rw (times, less) at told.0))

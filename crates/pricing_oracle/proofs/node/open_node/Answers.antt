@@ -52,7 +52,7 @@ returns-in_err-run-clause-shown g c =
     let e = run limit (program_given contents) (c.spend.new.self.limit - c.spend.new.self.spent) c.spend.new.self.spent in
     let is = run_here q signs before contents c.spend.new.self.limit c.spend.new.self.spent left c.in_default.ensures.given c.spend.ensures.limit units in
     let parts = parts_of c.args.room.now.tree in
-    rw (p.1, p.2) (run_stops e (on_optimum q (node_at q signs)) c.in_err-run.field-0.0 c.run.new.budget.spent parts parts _ is (sym c.run.ensures.answer ∙ c.in_err-run.was) c.run.ensures.units)
+    rw (p.1, p.2) (run_stops e (on_optimum q (node_at q signs)) c.in_err-run.field-0.0 c.run.new.budget.spent parts parts _ is (sym c.run.ensures.run.answer ∙ c.in_err-run.was) c.run.ensures.run.units)
 
 pub unreachable-requires : goal.unreachable-requires
 unreachable-requires g c =
@@ -68,7 +68,7 @@ unreachable-requires g c =
     let is = run_here q signs before contents c.spend.new.self.limit c.spend.new.self.spent left c.in_default.ensures.given c.spend.ensures.limit units in
     let asked = is_asked value limit c.args.budget.now.limit c.args.asked g.met.N.Exact.lowest c.requires.asked c.requires.not_below_zero in
     let count : length signs ≡ length (legs_in q) = length-map c.args.signs.now sign_of ∙ c.requires.count in
-    never_rises q signs before e (on_optimum q (node_at q signs)) asked count is (sym c.run.ensures.answer ∙ c.in_ok-run.was ∙ ap Ok c.if-not-branch.true)
+    never_rises q signs before e (on_optimum q (node_at q signs)) asked count is (sym c.run.ensures.run.answer ∙ c.in_ok-run.was ∙ ap Ok c.if-not-branch.true)
 
 pub look_at_state-requires-clause-direction : goal.look_at_state-requires-clause-direction
 look_at_state-requires-clause-direction g c =
@@ -82,7 +82,7 @@ look_at_state-requires-clause-direction g c =
     let asked = is_asked value limit c.args.budget.now.limit c.args.asked g.met.N.Exact.lowest c.requires.asked c.requires.not_below_zero in
     let count : length signs ≡ length (legs_in q) = length-map c.args.signs.now sign_of ∙ c.requires.count in
     let now = c.run.new.self.contents in
-    let there = optimum_there e now c.run.new.budget.spent (sym c.run.ensures.answer ∙ c.in_ok-run.was ∙ ap Ok c.if-not-branch.false) c.run.ensures.contents c.run.ensures.units in
+    let there = optimum_there e now c.run.new.budget.spent (sym c.run.ensures.run.answer ∙ c.in_ok-run.was ∙ ap Ok c.if-not-branch.false) c.run.ensures.run.contents c.run.ensures.run.units in
     let built : program_at q signs ≡ Ok (program_given contents) = built_there (program_at q signs) contents c.in_default.ensures.given in
     let optimal : IsOptimum (program_given contents) (x_of now) (y_of now) (reduced_of now) (value_of now) = subst (IsAsSaid (program_given contents)) there.0 c.run.ensures.holds in
     let above : is_above_zero (value_of now) ≡ true = ap is_above_zero (sym c.value.ensures) ∙ sym c.is_above_zero.ensures ∙ c.if-is_above_zero.true in
@@ -98,7 +98,7 @@ look_at_state-requires-clause-count g c =
     let contents = c.give_program.new.space.contents in
     let e = run limit (program_given contents) (c.spend.new.self.limit - c.spend.new.self.spent) c.spend.new.self.spent in
     let now = c.run.new.self.contents in
-    let there = optimum_there e now c.run.new.budget.spent (sym c.run.ensures.answer ∙ c.in_ok-run.was ∙ ap Ok c.if-not-branch.false) c.run.ensures.contents c.run.ensures.units in
+    let there = optimum_there e now c.run.new.budget.spent (sym c.run.ensures.run.answer ∙ c.in_ok-run.was ∙ ap Ok c.if-not-branch.false) c.run.ensures.run.contents c.run.ensures.run.units in
     let built : program_at q signs ≡ Ok (program_given contents) = built_there (program_at q signs) contents c.in_default.ensures.given in
     let optimal : IsOptimum (program_given contents) (x_of now) (y_of now) (reduced_of now) (value_of now) = subst (IsAsSaid (program_given contents)) there.0 c.run.ensures.holds in
     let shape = steps_have_shape limit c.args.asked.underlyings (legs_in q) (value c.args.asked.liability.now) signs (program_given contents) built in
@@ -119,7 +119,7 @@ look_at_state-requires-clause-bounded g c d s h =
     let asked = is_asked value limit c.args.budget.now.limit c.args.asked g.met.N.Exact.lowest c.requires.asked c.requires.not_below_zero in
     let count : length signs ≡ length (legs_in q) = length-map c.args.signs.now sign_of ∙ c.requires.count in
     let now = c.run.new.self.contents in
-    let there = optimum_there e now c.run.new.budget.spent (sym c.run.ensures.answer ∙ c.in_ok-run.was ∙ ap Ok c.if-not-branch.false) c.run.ensures.contents c.run.ensures.units in
+    let there = optimum_there e now c.run.new.budget.spent (sym c.run.ensures.run.answer ∙ c.in_ok-run.was ∙ ap Ok c.if-not-branch.false) c.run.ensures.run.contents c.run.ensures.run.units in
     let above : is_above_zero (value_of now) ≡ true = ap is_above_zero (sym c.value.ensures) ∙ sym c.is_above_zero.ensures ∙ c.if-is_above_zero.true in
     let ends = above_zero q signs before c.run.new.budget.spent e (x_of now) (y_of now) (reduced_of now) (value_of now) is there.0 above in
     never_ends_so q signs before d s asked count (ends ∙ h)
@@ -137,7 +137,7 @@ returns-then-is_above_zero-clause-shown g c =
     let e = run limit (program_given contents) (c.spend.new.self.limit - c.spend.new.self.spent) c.spend.new.self.spent in
     let is = run_here q signs before contents c.spend.new.self.limit c.spend.new.self.spent left c.in_default.ensures.given c.spend.ensures.limit units in
     let now = c.run.new.self.contents in
-    let there = optimum_there e now c.run.new.budget.spent (sym c.run.ensures.answer ∙ c.in_ok-run.was ∙ ap Ok c.if-not-branch.false) c.run.ensures.contents c.run.ensures.units in
+    let there = optimum_there e now c.run.new.budget.spent (sym c.run.ensures.run.answer ∙ c.in_ok-run.was ∙ ap Ok c.if-not-branch.false) c.run.ensures.run.contents c.run.ensures.run.units in
     let above : is_above_zero (value_of now) ≡ true = ap is_above_zero (sym c.value.ensures) ∙ sym c.is_above_zero.ensures ∙ c.if-is_above_zero.true in
     let ends = above_zero q signs before c.run.new.budget.spent e (x_of now) (y_of now) (reduced_of now) (value_of now) is there.0 above in
     let parts = parts_of c.args.room.now.tree in
@@ -153,7 +153,7 @@ add_leaf-requires-clause-rows g c =
     let contents = c.give_program.new.space.contents in
     let e = run limit (program_given contents) (c.spend.new.self.limit - c.spend.new.self.spent) c.spend.new.self.spent in
     let now = c.run.new.self.contents in
-    let there = optimum_there e now c.run.new.budget.spent (sym c.run.ensures.answer ∙ c.in_ok-run.was ∙ ap Ok c.if-not-branch.false) c.run.ensures.contents c.run.ensures.units in
+    let there = optimum_there e now c.run.new.budget.spent (sym c.run.ensures.run.answer ∙ c.in_ok-run.was ∙ ap Ok c.if-not-branch.false) c.run.ensures.run.contents c.run.ensures.run.units in
     let built : program_at q signs ≡ Ok (program_given contents) = built_there (program_at q signs) contents c.in_default.ensures.given in
     let optimal : IsOptimum (program_given contents) (x_of now) (y_of now) (reduced_of now) (value_of now) = subst (IsAsSaid (program_given contents)) there.0 c.run.ensures.holds in
     let shape = steps_have_shape limit c.args.asked.underlyings (legs_in q) (value c.args.asked.liability.now) signs (program_given contents) built in
@@ -172,7 +172,7 @@ returns-clause-shown g c =
     let e = run limit (program_given contents) (c.spend.new.self.limit - c.spend.new.self.spent) c.spend.new.self.spent in
     let is = run_here q signs before contents c.spend.new.self.limit c.spend.new.self.spent left c.in_default.ensures.given c.spend.ensures.limit units in
     let now = c.run.new.self.contents in
-    let there = optimum_there e now c.run.new.budget.spent (sym c.run.ensures.answer ∙ c.in_ok-run.was ∙ ap Ok c.if-not-branch.false) c.run.ensures.contents c.run.ensures.units in
+    let there = optimum_there e now c.run.new.budget.spent (sym c.run.ensures.run.answer ∙ c.in_ok-run.was ∙ ap Ok c.if-not-branch.false) c.run.ensures.run.contents c.run.ensures.run.units in
     let low : is_above_zero (value_of now) ≡ false = ap is_above_zero (sym c.value.ensures) ∙ sym c.is_above_zero.ensures ∙ c.if-is_above_zero.false in
     (leaf_of (node_at q signs) (y_of now), c.add_leaf.ensures.leaf, at_zero q signs before c.run.new.budget.spent e (x_of now) (y_of now) (reduced_of now) (value_of now) is there.0 low)
 
@@ -195,7 +195,7 @@ add_leaf-requires-clause-multipliers g c =
     let is = run_here q signs before contents c.spend.new.self.limit c.spend.new.self.spent left c.in_default.ensures.given c.spend.ensures.limit units in
     let asked = is_asked value limit c.args.budget.now.limit c.args.asked g.met.N.Exact.lowest c.requires.asked c.requires.not_below_zero in
     let now = c.run.new.self.contents in
-    let there = optimum_there e now c.run.new.budget.spent (sym c.run.ensures.answer ∙ c.in_ok-run.was ∙ ap Ok c.if-not-branch.false) c.run.ensures.contents c.run.ensures.units in
+    let there = optimum_there e now c.run.new.budget.spent (sym c.run.ensures.run.answer ∙ c.in_ok-run.was ∙ ap Ok c.if-not-branch.false) c.run.ensures.run.contents c.run.ensures.run.units in
     let low : is_above_zero (value_of now) ≡ false = ap is_above_zero (sym c.value.ensures) ∙ sym c.is_above_zero.ensures ∙ c.if-is_above_zero.false in
     let ends = at_zero q signs before c.run.new.budget.spent e (x_of now) (y_of now) (reduced_of now) (value_of now) is there.0 low in
     let sized = leaf_sized q signs before c.run.new.budget.spent (leaf_of (node_at q signs) (y_of now)) asked ends in

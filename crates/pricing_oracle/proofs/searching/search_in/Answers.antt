@@ -12,7 +12,7 @@ search-requires-clause-count g c =
     let value = g.N.Exact.fraction in
     let fills = c.args.fills.now in
     c.leg_count.ensures.count
-    ∙ sym (length-fraction_legs c.as_slice-orders.result.now (map value fills) (length-map fills value ∙ c.requires.fills ∙ ap length (sym c.as_slice-orders.ensures)))
+    ∙ sym (length-fraction_legs c.as_slice-orders.result.now (map value fills) (length-map fills value ∙ c.requires.asked.fills ∙ ap length (sym c.as_slice-orders.ensures)))
 
 pub returns-clause-search : goal.returns-clause-search
 returns-clause-search g c =
@@ -31,5 +31,5 @@ returns-clause-found g c =
     let batch = c.args.batch.now in
     let budget = c.args.budget.now in
     let q = question limit budget.limit batch (map value c.args.fills.now) (value c.args.liability.now) in
-    let asked = is_question value limit budget.limit batch c.args.fills.now c.args.liability.now g.met.N.Exact.lowest c.requires.forms c.requires.fills c.requires.not_below_zero in
+    let asked = is_question value limit budget.limit batch c.args.fills.now c.args.liability.now g.met.N.Exact.lowest c.requires.asked.forms c.requires.asked.fills c.requires.asked.not_below_zero in
     answer_is_true q budget.spent c.search.new.budget.spent c.search.new.self.tree c.search.result asked (returns-clause-search g c)

@@ -1,4 +1,4 @@
-use Rattle.run_equivalence.proofs.LineSteps.{numbers_between_fit, steps_within_room, cross_products_fit}
+use Rattle.run_equivalence.proofs.IntegerRowSteps.{numbers_between_fit, steps_within_room, cross_products_fit}
 use Rattle.run_equivalence.proofs.whole_laws.numbers_between_fit.Goals as goal
 
 pub returns-clause-lines : goal.returns-clause-lines

@@ -1,6 +1,6 @@
 use Rattle.std.proofs.Common.{◌≡◌, ◌-◌, ◌≤◌, arith, rules, unsigned_abs}
 use Rattle.fraction_tableau.specs.SparseRows.{program_in}
-use Rattle.run_equivalence.specs.Lines.{widest}
+use Rattle.run_equivalence.specs.IntegerRows.{widest}
 use Rattle.simplex.proofs.WholeSteps.{started_at, whole_optimum, whole_ray, whole_no_unit}
 use Rattle.simplex.proofs.attempt.run_whole.Goals as goal
 

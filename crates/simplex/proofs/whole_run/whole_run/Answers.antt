@@ -2,13 +2,13 @@ use Rattle.std.proofs.Common.{◌≡◌, ◌+◌, ◌-◌, ◌<◌, ℕ, ◌∙�
 use Rattle.std.specs.Prelude.{Option, Some}
 use Rattle.std.specs.Option.{option_map}
 use Rattle.simplex_run.specs.Ending.{no_unit_left, unbounded}
-use Rattle.run_equivalence.specs.Lines.{LineTable}
+use Rattle.run_equivalence.specs.IntegerRows.{IntegerTable}
 use Rattle.run_equivalence.specs.WholeRunning.{whole_direction, whole_run_from}
-use Rattle.integer_tableau.specs.declared.turn.Turn.{Turn}
+use Rattle.integer_tableau.specs.declared.pivot_end.PivotEnd.{PivotEnd}
 use Rattle.fraction_tableau.specs.declared.columns.Entering.{Entering}
 use Rattle.fraction_tableau.specs.Labels.{as_column}
 use Rattle.integer_tableau.specs.Stored.{rows_in}
-use Rattle.integer_tableau.specs.Tables.{as_whole, IsTurn}
+use Rattle.integer_tableau.specs.Tables.{as_whole, IsPivotEnd}
 use Rattle.integer_tableau.proofs.Pivoting.{rows_fit_in}
 use Rattle.simplex.proofs.RunSteps.{spent_one, spent_none}
 use Rattle.simplex.proofs.WholeSteps.{whole_ends, whole_out, whole_moves, whole_unlimited}
@@ -30,26 +30,26 @@ returns-in-Unlimited-clause-run c n m =
     let s = spent_one c.spend.result c.loop-column.budget.spent c.loop-column.budget.limit c.spend.new.self.spent c.spend.ensures.answer c.spend.ensures.spent c.if-not-spend.false in
     let enters = sym c.entering.ensures.column ∙ ap (λ (e : Option Entering). option_map as_column e) c.in-Some.is in
     let column = c.in-Some.column in
-    let told = subst (λ (r : Turn). IsTurn c.args.limit column.place r c.loop-column.table c.turn.new.self) c.in-Unlimited.is c.turn.ensures.turn in
+    let told = subst (λ (r : PivotEnd). IsPivotEnd c.args.limit column.place r c.loop-column.table c.pivot.new.self) c.in-Unlimited.is c.pivot.ensures.pivoted in
     let run0 = whole_run_from c.args.limit n m (c.args.budget.now.limit - c.args.budget.now.spent) c.args.budget.now.spent (as_whole c.args.table.now) in
     let ends = sym (c.loop-column.invariant.rest n m)
     ∙ whole_unlimited c.args.limit n m (c.loop-column.budget.limit - c.loop-column.budget.spent) _ _ _ enters told.0 (omega (arith, s.0))
     ∙ ap (λ (k : ℕ). Some (unbounded (whole_direction n (as_column column) (as_whole c.loop-column.table)) k)) (sym s.1) in
     let inside : column.place < length c.loop-column.table.labels.items = search rules in (
-      subst (λ (t : LineTable). run0 ≡ Some (unbounded (whole_direction n (as_column column) t) c.spend.new.self.spent)) (sym told.1) ends,
+      subst (λ (t : IntegerTable). run0 ≡ Some (unbounded (whole_direction n (as_column column) t) c.spend.new.self.spent)) (sym told.1) ends,
       told.2,
-      omega (arith, inside, c.turn.ensures.shape.columns),
+      omega (arith, inside, c.pivot.ensures.shape.columns),
     )
 
 pub loop-column-preserved : goal.loop-column-preserved
 loop-column-preserved c =
     let s = spent_one c.spend.result c.loop-column.budget.spent c.loop-column.budget.limit c.spend.new.self.spent c.spend.ensures.answer c.spend.ensures.spent c.if-not-spend.false in
     let enters = sym c.entering.ensures.column ∙ ap (λ (e : Option Entering). option_map as_column e) c.in-Some.is in
-    let told = subst (λ (r : Turn). IsTurn c.args.limit c.in-Some.column.place r c.loop-column.table c.turn.new.self) c.in-Moved.is c.turn.ensures.turn in
-    let next = c.turn.new.self in
+    let told = subst (λ (r : PivotEnd). IsPivotEnd c.args.limit c.in-Some.column.place r c.loop-column.table c.pivot.new.self) c.in-Moved.is c.pivot.ensures.pivoted in
+    let next = c.pivot.new.self in
     let fits = rows_fit_in c.args.limit (length next.labels.items + 1) next.basics.items (rows_in next.rows) told.2.rows.lines in
     let left : c.spend.new.self.limit - c.spend.new.self.spent ≡ c.loop-column.budget.limit - c.loop-column.budget.spent - 1 = omega (arith, s.1, c.spend.ensures.limit) in
-    let turned = c.turn.ensures.shape in
+    let turned = c.pivot.ensures.shape in
     let before = c.loop-column.invariant.shape in
     record {
       limit = c.spend.ensures.limit ∙ c.loop-column.invariant.limit;

@@ -1,31 +1,32 @@
-use Rattle.std.proofs.Common.{◌≡◌, ◌+◌, ◌∙◌, sym, ap, arith, length, set, unsigned_abs}
-use Rattle.std.specs.Prelude.{Ok, get_or, slice_index_or}
-use Rattle.std.proofs.lemmas.List.{length-map, length-set}
-use Rattle.exact_num.specs.Fits.{after, written_back}
-use Rattle.simplex_run.specs.Table.{with_right}
-use Rattle.fraction_tableau.specs.Candidates.{apart}
-use Rattle.fraction_tableau.specs.Lists.{front, lists_after_turn}
-use Rattle.fraction_tableau.specs.Tables.{columns_of, lists_of, objective_of}
-use Rattle.fraction_tableau.proofs.Beside.{pivoted_apart, written_apart}
+use Rattle.std.proofs.Common.{◌∙◌, sym, ap}
+use Rattle.std.specs.Prelude.{Ok}
+use Rattle.std.proofs.lemmas.Result.{err_from_is_err_and}
+use Rattle.exact_num.specs.Fits.{written_back}
+use Rattle.simplex_run.specs.Run.{moved_or_stopped}
+use Rattle.fraction_tableau.specs.Tables.{as_table}
+use Rattle.fraction_tableau.proofs.Pivoting.{pivot_none, pivot_stops, pivot_moves}
 use Rattle.fraction_tableau.proofs.table.Table.pivot.Goals as goal
 
-pub returns-clause-table : goal.returns-clause-table
-returns-clause-table g c =
-    let value = g.N.Exact.fraction in
-    let L = unsigned_abs g.N.Exact.LIMIT in
-    let t = c.args.self.now in
-    let u = c.exchange.new.self in
-    let v = c.turn_rows.new.self in
-    let l = slice_index_or t.basics.items c.args.r 0 in
-    let labels = set t.labels.items c.args.c l in
-    let basics = set t.basics.items c.args.r (get_or t.labels.items c.args.c 0) in
-    let same : length t.basics.items ≡ length (lists_of value t) = omega (arith, length-map t.rows.rows (front value (length t.labels.items + 1)), t.count, t.basics.ok) in
-    let columns : columns_of u ≡ columns_of t = (λ i. length (c.exchange.ensures.labels i) + length (c.exchange.ensures.basics i)) ∙ (λ i. length-set t.labels.items c.args.c l i + length-set t.basics.items c.args.r (get_or t.labels.items c.args.c 0) i) in
-    let turned = c.turn_rows.ensures.turned ∙ (λ i. lists_after_turn L c.args.c (with_right (columns i) (c.exchange.ensures.labels i)) c.args.r (c.exchange.ensures.lists i) (c.exchange.ensures.objective i)) in
-    let all_labels = c.turn_rows.ensures.labels ∙ c.exchange.ensures.labels in
-    let all_basics = c.turn_rows.ensures.basics ∙ c.exchange.ensures.basics in
-    let all_columns : columns_of v ≡ columns_of t = (λ i. length (c.turn_rows.ensures.labels i) + length (c.turn_rows.ensures.basics i)) ∙ columns in
-    (λ i. written_back c.turn_rows.result (apart (all_columns i) (all_labels i) (all_basics i) (lists_of value v) (objective_of value v)))
-    ∙ written_apart (columns_of t) labels basics c.turn_rows.result (lists_of value v) (objective_of value v)
-    ∙ ap (λ q. after q (λ o. Ok (apart (columns_of t) labels basics o.0 o.1))) turned
-    ∙ sym (pivoted_apart L c.args.c c.args.r l (columns_of t) t.labels.items t.basics.items (lists_of value t) (objective_of value t) same (λ i. l))
+pub returns-in_err-leaving-clause-pivoted : goal.returns-in_err-leaving-clause-pivoted
+returns-in_err-leaving-clause-pivoted g c =
+    let p = err_from_is_err_and c.from_residual.result c.from_residual.ensures.1 in
+    rw (p.1, p.2) (pivot_stops _ _ _ _ (sym c.leaving.ensures.place ∙ c.in_err-leaving.was))
+
+pub pivot_at-requires-clause-pivot : goal.pivot_at-requires-clause-pivot
+pivot_at-requires-clause-pivot g c = c.leaving.ensures.pivot c.in-Some.r (c.in_ok-leaving.was ∙ ap Ok c.in-Some.is)
+
+pub returns-in_err-pivot_at-in-Some-clause-pivoted : goal.returns-in_err-pivot_at-in-Some-clause-pivoted
+returns-in_err-pivot_at-in-Some-clause-pivoted g c =
+    let p = err_from_is_err_and c.from_residual-in_err-pivot_at-in-Some.result c.from_residual-in_err-pivot_at-in-Some.ensures.1 in
+    let place = sym c.leaving.ensures.place ∙ c.in_ok-leaving.was ∙ ap Ok c.in-Some.is in
+    let stop = sym c.pivot_at.ensures.table ∙ ap (λ r. written_back r (as_table g.N.Exact.fraction c.pivot_at.new.self)) c.in_err-pivot_at-in-Some.was in
+    rw (p.1, p.2) (sym (pivot_moves _ _ _ (as_table g.N.Exact.fraction c.args.self.now) place ∙ ap moved_or_stopped stop))
+
+pub returns-in-None-clause-pivoted : goal.returns-in-None-clause-pivoted
+returns-in-None-clause-pivoted g c = pivot_none _ _ _ (sym c.leaving.ensures.place ∙ c.in_ok-leaving.was ∙ ap Ok c.in-None.is)
+
+pub returns-in_ok-pivot_at-in-Some-clause-pivoted : goal.returns-in_ok-pivot_at-in-Some-clause-pivoted
+returns-in_ok-pivot_at-in-Some-clause-pivoted g c =
+    let place = sym c.leaving.ensures.place ∙ c.in_ok-leaving.was ∙ ap Ok c.in-Some.is in
+    let next = sym c.pivot_at.ensures.table ∙ ap (λ r. written_back r (as_table g.N.Exact.fraction c.pivot_at.new.self)) c.in_ok-pivot_at-in-Some.was in
+    sym (pivot_moves _ _ _ (as_table g.N.Exact.fraction c.args.self.now) place ∙ ap moved_or_stopped next)

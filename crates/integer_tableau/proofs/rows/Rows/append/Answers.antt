@@ -1,5 +1,5 @@
 use Rattle.std.proofs.Common.{◌≡◌, ◌∙◌, refl, sym, ap, arith, false, ℕ, ℤ, List, [], ◌∷◌, ◌++◌, length, set, get_or}
-use Rattle.run_equivalence.specs.Lines.{widest}
+use Rattle.run_equivalence.specs.IntegerRows.{widest}
 use Rattle.integer_tableau.specs.Stored.{rows_in, rows_of}
 use Rattle.integer_tableau.proofs.Changed.{appended, flag_unset}
 use Rattle.integer_tableau.proofs.Stored.{flag_unread, rows_more}

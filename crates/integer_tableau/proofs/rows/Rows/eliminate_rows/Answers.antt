@@ -1,6 +1,6 @@
 use Rattle.std.proofs.Common.{◌+◌, ◌<◌, ◌∙◌, refl, sym, subst, arith, length, slice_index_or, ℕ}
-use Rattle.run_equivalence.specs.Lines.{IsLine}
-use Rattle.integer_tableau.specs.Rows.{line_in, row_at}
+use Rattle.run_equivalence.specs.IntegerRows.{IsIntegerRow}
+use Rattle.integer_tableau.specs.Rows.{row_in, row_at}
 use Rattle.integer_tableau.specs.Stored.{IsKnown, IsRowEliminated, IsStored, rows_in}
 use Rattle.integer_tableau.specs.declared.rows.Rows.{Rows}
 use Rattle.integer_tableau.proofs.Listed.{first_gap, later_gap, next_row, no_row, row_inside, row_is}
@@ -31,7 +31,7 @@ eliminate_row-requires c =
     record {
       rows = (low, λ e. c.if-i-r.true (sym e));
       width = omega (arith, c.requires.width, room, inv.count.width);
-      line = subst (λ (n : ℕ). IsLine k.step.limit n (line_in n (row_at (rows_in s) i))) room (inv.stored.lines i (omega (arith, low, rows_many s)));
+      line = subst (λ (n : ℕ). IsIntegerRow k.step.limit n (row_in n (row_at (rows_in s) i))) room (inv.stored.lines i (omega (arith, low, rows_many s)));
       stored = subst (λ (n : ℕ). IsStored n s i) room (inv.stored.rows i low);
       pivot = subst (λ (n : ℕ). IsKnown k n s) room inv.known;
     }

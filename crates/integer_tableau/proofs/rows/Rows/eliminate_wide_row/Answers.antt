@@ -1,6 +1,6 @@
 use Rattle.std.proofs.Common.{◌<◌, ◌≤◌, ◌∙◌, sym, ap, subst, arith, List, ℤ, length}
-use Rattle.run_equivalence.specs.Lines.{IsLine, line_size}
-use Rattle.integer_tableau.specs.Rows.{line_in}
+use Rattle.run_equivalence.specs.IntegerRows.{IsIntegerRow, row_size}
+use Rattle.integer_tableau.specs.Rows.{row_in}
 use Rattle.integer_tableau.specs.Stored.{size_at}
 use Rattle.integer_tableau.proofs.Changed.{changed_counts, written_after}
 use Rattle.integer_tableau.proofs.Eliminating.{eliminated_at, left_within}
@@ -20,8 +20,8 @@ mix_wide_row-requires c =
       rows = (low, c.requires.rows.1);
       width = omega (arith, c.requires.width, wide.written.count.width);
       line = record {
-        line = subst (IsLine c.args.known.step.limit w) (sym wide.line ∙ ap (line_in w) there) c.requires.line;
-        size = subst (λ (z : List ℤ). line_size (line_in w z) ≤ size_at s i) there wide.written.stored.size;
+        line = subst (IsIntegerRow c.args.known.step.limit w) (sym wide.line ∙ ap (row_in w) there) c.requires.line;
+        size = subst (λ (z : List ℤ). row_size (row_in w z) ≤ size_at s i) there wide.written.stored.size;
       };
       pivot = known_after c.args.known w i c.args.self.now s c.requires.pivot wide.written (λ e. c.requires.rows.1 (sym e));
       wide = wide.wide;
@@ -39,7 +39,7 @@ settle-requires c =
     let counts = changed_counts i s c.mix_wide_row.new.self told.changed in
     let low : i < length s.short.rows = omega (arith, c.requires.rows.0, wide.written.count.count) in
     let known = known_after k w i c.args.self.now s c.requires.pivot wide.written (λ e. c.requires.rows.1 (sym e)) in
-    let line = subst (IsLine k.step.limit w) (sym wide.line ∙ ap (line_in w) (row_standing_wide s i low wide.wide)) c.requires.line in
+    let line = subst (IsIntegerRow k.step.limit w) (sym wide.line ∙ ap (row_in w) (row_standing_wide s i low wide.wide)) c.requires.line in
     record {
       row = omega (arith, low, counts.count);
       width = omega (arith, c.requires.width, wide.written.count.width, counts.width);
@@ -62,8 +62,8 @@ returns c =
     let low : i < length s.short.rows = omega (arith, c.requires.rows.0, wide.written.count.count) in
     let still : i < length mixed.short.rows = omega (arith, low, counts.count) in
     let pivot = other_row w i c.args.known.step.r first s wide.written (λ e. c.requires.rows.1 (sym e)) in
-    let old = sym (ap (line_in w) (row_standing_wide s i low wide.wide)) ∙ wide.line in
-    let new = sym (c.settle.ensures.line ∙ ap (line_in w) (row_standing_wide mixed i still told.wide)) in
+    let old = sym (ap (row_in w) (row_standing_wide s i low wide.wide)) ∙ wide.line in
+    let new = sym (c.settle.ensures.line ∙ ap (row_in w) (row_standing_wide mixed i still told.wide)) in
     let written = written_then w i first s settled wide.written (written_after w i s mixed settled c.settle.ensures.written told.changed) in
     record {
       eliminated = λ done. record { eliminated = eliminated_at c.args.known w _ _ _ _ _ _ pivot old new (told.eliminated c.if-not-mix_wide_row.false); written = written };

@@ -6,13 +6,13 @@ use Rattle.std.proofs.lemmas.List.{length-map}
 use Rattle.simplex_run.specs.Choice.{Ratio, least, ratio_of}
 use Rattle.exact_num.specs.Fraction.{over}
 use Rattle.fraction_tableau.specs.Candidates.{best_with, better_of}
-use Rattle.run_equivalence.specs.Lines.{Line, no_line, number_at}
-use Rattle.run_equivalence.proofs.TurnSteps.{size_above}
+use Rattle.run_equivalence.specs.IntegerRows.{IntegerRow, no_integer_row, number_at}
+use Rattle.run_equivalence.proofs.PivotSteps.{size_above}
 use Rattle.integer_tableau.specs.declared.ratios.Candidate.{Candidate}
 use Rattle.integer_tableau.specs.Choices.{as_ratio, entry_of, right_side_of}
-use Rattle.integer_tableau.specs.Rows.{beside_basics, line_in, lines_in, row_at}
+use Rattle.integer_tableau.specs.Rows.{beside_basics, row_in, integer_rows_in, row_at}
 use Rattle.integer_tableau.specs.Stored.{rows_in}
-use Rattle.integer_tableau.proofs.Choosing.{Chooses, chooses_taken, chooses_passed, chooses_on, chooses_end, front_beside, length-beside, line_place, in_line}
+use Rattle.integer_tableau.proofs.Choosing.{Chooses, chooses_taken, chooses_passed, chooses_on, chooses_end, front_beside, length-beside, row_place, in_row}
 use Rattle.integer_tableau.proofs.Listed.{first_gap, later_gap, next_row, no_row, row_inside, row_is}
 use Rattle.integer_tableau.proofs.Stored.{above_by_sign, rows_count}
 use Rattle.integer_tableau.proofs.Written.{sign_there}
@@ -68,25 +68,25 @@ loop-place-preserved c =
     let t = c.loop-place.place-index in
     let i = slice_index_or places t 0 in
     let x = row_at rows i in
-    let lines = lines_in w rows in
+    let lines = integer_rows_in w rows in
     let all = beside_basics basics lines in
-    let count = length-map rows (line_in w) in
+    let count = length-map rows (row_in w) in
     let many = rows_count self.is_wide.items self.short.rows self.wide.rows in
     let same = c.requires.count ∙ sym many in
     let low : i < length rows = row_inside c.args.c rows places c.requires.places t c.loop-place-test.true in
     let inside : i < length self.short.rows = omega (arith, low, many) in
     let in_basics : i < length basics = omega (arith, low, same) in
-    let in_lines : i < length lines = omega (arith, low, count) in
+    let in_rows : i < length lines = omega (arith, low, count) in
     let b = slice_index_or basics i 0 in
-    let l = get_or lines i no_line in
-    let is_line = line_place w rows i no_line low in
+    let l = get_or lines i no_integer_row in
+    let is_integer_row = row_place w rows i no_integer_row low in
     let sign = slice_index_or c.row.result.now (c.args.c + 1) (pos 0) in
     let fits : FitsSigned w64 sign = search rules in
     let alike = above_by_sign _ _ (sign_there w c.args.c i self (omega (arith, c.requires.columns.0)) inside (omega (arith, inside, self.wide_count)) (c.requires.stored.1.rows i inside)) in
     let is_sign = sym alike ∙ ap (λ (z : List ℤ). int_lt (pos 0) (number_at z (c.args.c + 1))) (sym c.row.ensures.row) in
-    let is_side = ap (λ (m : Line). number_at m.numbers k) is_line ∙ in_line w x k (omega arith) in
-    let is_entry = ap (λ (m : Line). number_at m.numbers c.args.c) is_line ∙ in_line w x c.args.c (omega (arith, c.requires.columns.0)) in
-    let front = front_beside basics lines i no_line in_basics in_lines in
+    let is_side = ap (λ (m : IntegerRow). number_at m.numbers k) is_integer_row ∙ in_row w x k (omega arith) in
+    let is_entry = ap (λ (m : IntegerRow). number_at m.numbers c.args.c) is_integer_row ∙ in_row w x c.args.c (omega (arith, c.requires.columns.0)) in
+    let front = front_beside basics lines i no_integer_row in_basics in_rows in
     let here : Chooses k c.args.c all i (option_map as_ratio c.loop-place.best) = subst (λ (n : ℕ). Chooses k c.args.c all n (option_map as_ratio c.loop-place.best)) (row_is c.args.c rows places c.requires.places t c.loop-place-test.true) c.loop-place.invariant.chooses in
     let on : (best : Option Ratio) → Chooses k c.args.c all (i + 1) best → Chooses k c.args.c all (next_row places (t + 1) rows) best = λ best g. chooses_on k c.args.c basics rows (i + 1) _ best c.requires.columns.0 same (later_gap c.args.c rows places c.requires.places t c.loop-place-test.true) g in
     elim c.if-sign-gt0.branch [
@@ -113,9 +113,9 @@ pub returns-in-None : goal.returns-in-None
 returns-in-None c =
     let self = c.args.self.now in
     let rows = rows_in self in
-    let lines = lines_in (c.args.columns + 1) rows in
+    let lines = integer_rows_in (c.args.columns + 1) rows in
     let same = c.requires.count ∙ sym (rows_count self.is_wide.items self.short.rows self.wide.rows) in
-    let count = length-map rows (line_in (c.args.columns + 1)) in
+    let count = length-map rows (row_in (c.args.columns + 1)) in
     let many = length-beside c.args.basics.now lines (same ∙ sym count) in
     let end = no_row c.args.c rows c.args.places.now c.requires.places c.loop-place.place-index (omega (arith, c.loop-place-test.false)) in
     ap (λ (b : Option Candidate). best_with (option_map as_ratio b) []) (sym c.in-None.is) ∙ chooses_end _ _ (beside_basics c.args.basics.now lines) _ _ (omega (arith, many, count, end)) c.loop-place.invariant.chooses
@@ -125,9 +125,9 @@ unfolding least
 returns-in-Some c =
     let self = c.args.self.now in
     let rows = rows_in self in
-    let lines = lines_in (c.args.columns + 1) rows in
+    let lines = integer_rows_in (c.args.columns + 1) rows in
     let same = c.requires.count ∙ sym (rows_count self.is_wide.items self.short.rows self.wide.rows) in
-    let count = length-map rows (line_in (c.args.columns + 1)) in
+    let count = length-map rows (row_in (c.args.columns + 1)) in
     let many = length-beside c.args.basics.now lines (same ∙ sym count) in
     let end = no_row c.args.c rows c.args.places.now c.requires.places c.loop-place.place-index (omega (arith, c.loop-place-test.false)) in
     ap (λ (b : Option Candidate). best_with (option_map as_ratio b) []) (sym c.in-Some.is) ∙ chooses_end _ _ (beside_basics c.args.basics.now lines) _ _ (omega (arith, many, count, end)) c.loop-place.invariant.chooses

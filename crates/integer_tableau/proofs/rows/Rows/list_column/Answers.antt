@@ -4,7 +4,7 @@ use Rattle.std.proofs.lemmas.List.{get_or_default, length-map}
 use Rattle.exact_num.specs.Fraction.{whole}
 use Rattle.fraction_tableau.specs.Nonzero.{nonzero_from}
 use Rattle.fraction_tableau.proofs.Nonzero.{all_taken}
-use Rattle.run_equivalence.specs.Lines.{number_at}
+use Rattle.run_equivalence.specs.IntegerRows.{number_at}
 use Rattle.integer_tableau.specs.Rows.{column_in}
 use Rattle.integer_tableau.proofs.Sparse.{place_more}
 use Rattle.integer_tableau.proofs.Listed.{column_number}

@@ -1,6 +1,6 @@
 use Rattle.std.proofs.Common.{◌∙◌, sym, ap, rules, true, false, ℤ, List, slice_index_or, pos, FitsSigned, w64}
 use mir.Syntax.{w128}
-use Rattle.run_equivalence.specs.Lines.{number_at}
+use Rattle.run_equivalence.specs.IntegerRows.{number_at}
 use Rattle.std.proofs.lemmas.Int.{to_z-of_z}
 use Rattle.integer_tableau.proofs.Numbers.{widened}
 use Rattle.integer_tableau.proofs.Standing.{flag_there, row_standing_short, row_standing_wide}

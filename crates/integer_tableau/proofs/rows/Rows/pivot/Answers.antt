@@ -1,12 +1,12 @@
 use Rattle.std.proofs.Common.{◌≡◌, ◌-◌, ◌<◌, ◌^◌, ◌∙◌, sym, ap, subst, arith, length, take, ℕ, ℤ, List}
 use Rattle.std.proofs.lemmas.List.{length-take-le}
-use Rattle.run_equivalence.specs.WholeTurning.{cut}
-use Rattle.integer_tableau.specs.Rows.{IsEliminated, line_in, pivot_line, row_at}
+use Rattle.run_equivalence.specs.WholePivoting.{cut}
+use Rattle.integer_tableau.specs.Rows.{IsEliminated, row_in, pivot_row_after, row_at}
 use Rattle.integer_tableau.specs.Stored.{AreStored, rows_in}
-use Rattle.integer_tableau.proofs.Eliminating.{left_line}
-use Rattle.integer_tableau.proofs.Placed.{is_placed, pivoted_line, placed_column, placed_known, placed_stored, sizes_low}
+use Rattle.integer_tableau.proofs.Eliminating.{left_row}
+use Rattle.integer_tableau.proofs.Placed.{is_placed, pivoted_row, placed_column, placed_known, placed_stored, sizes_low}
 use Rattle.integer_tableau.proofs.Standing.{rows_many}
-use Rattle.integer_tableau.proofs.Turned.{line_wider}
+use Rattle.integer_tableau.proofs.Turned.{row_wider}
 use Rattle.integer_tableau.proofs.Widths.{known_at, rows_at}
 use Rattle.integer_tableau.proofs.Written.{counts_then, other_row}
 use Rattle.integer_tableau.proofs.rows.Rows.pivot.Goals as goal
@@ -19,7 +19,7 @@ place_pivot-a-requires c =
     record {
       width = c.requires.widths.0;
       pivot = g.pivot;
-      line = line_wider c.args.step.limit (2 ^ 127 - 1) w _ g.limit.1 (g.kept.rows.lines r g.pivot.row);
+      line = row_wider c.args.step.limit (2 ^ 127 - 1) w _ g.limit.1 (g.kept.rows.lines r g.pivot.row);
       stored = g.kept.rows.rows r (omega (arith, g.pivot.row, rows_many c.args.self.now));
     }
 
@@ -68,18 +68,18 @@ returns c =
           (let rows = rows_at count (c.eliminate_rows.ensures.eliminated done) in
           record {
             count = omega (arith, rows_many first, rows_many last, counts.count);
-            pivot = ap (line_in w) rows.pivot ∙ told.line ∙ ap (λ (q : ℕ). pivot_line c.args.step.c q (cut (line_in w (row_at (rows_in first) r)))) told.denominator;
+            pivot = ap (row_in w) rows.pivot ∙ told.line ∙ ap (λ (q : ℕ). pivot_row_after c.args.step.c q (cut (row_in w (row_at (rows_in first) r)))) told.denominator;
             rows = λ i low apart.
                 (let same = other_row w r i first s told.written (λ e. apart (sym e)) in
                 let there : i < length (rows_in s) = omega (arith, low, rows_many first, rows_many s, told.written.count.count) in
-                pivoted_line g.pivot g.kept.rows told _ _ (subst (λ (z : List ℤ). IsEliminated limit c.args.step.c c.place_pivot-a.result.0 c.place_pivot-a.result.1 (line_in w (row_at (rows_in s) r)).numbers (line_in w z) (line_in w (row_at (rows_in last) i))) same (rows.rows i there apart)));
-            objective = pivoted_line g.pivot g.kept.rows told _ _ objective;
+                pivoted_row g.pivot g.kept.rows told _ _ (subst (λ (z : List ℤ). IsEliminated limit c.args.step.c c.place_pivot-a.result.0 c.place_pivot-a.result.1 (row_in w (row_at (rows_in s) r)).numbers (row_in w z) (row_in w (row_at (rows_in last) i))) same (rows.rows i there apart)));
+            objective = pivoted_row g.pivot g.kept.rows told _ _ objective;
           });
       kept = λ done.
           record {
             rows = (rows_at count (c.eliminate_rows.ensures.eliminated done)).stored;
             objective = record {
-              line = left_line limit c.place_pivot-a.result.1 w c.args.step.c c.place_pivot-a.result.0 (line_in w (row_at (rows_in s) r)).numbers (line_in w c.args.objective.now.numbers.items) (line_in w c.eliminate_objective.new.objective.numbers.items) (sizes_low g.pivot g.kept.rows told) placed.line.count placed.above g.kept.objective.line objective;
+              line = left_row limit c.place_pivot-a.result.1 w c.args.step.c c.place_pivot-a.result.0 (row_in w (row_at (rows_in s) r)).numbers (row_in w c.args.objective.now.numbers.items) (row_in w c.eliminate_objective.new.objective.numbers.items) (sizes_low g.pivot g.kept.rows told) placed.line.count placed.above g.kept.objective.line objective;
               size = c.eliminate_objective.ensures.size c.if-not-eliminate_objective.false;
             };
           };

@@ -1,9 +1,9 @@
 use Rattle.std.proofs.Common.{rules, ◌-◌, ◌^◌, ◌<◌, sym, subst, arith, unsigned_abs}
-use Rattle.run_equivalence.specs.Lines.{Line, IsLine, number_at}
-use Rattle.run_equivalence.specs.WholeTurning.{cut}
-use Rattle.run_equivalence.proofs.LineSteps.{cut_within}
-use Rattle.run_equivalence.proofs.TurnSteps.{size_above, cut_above}
-use Rattle.integer_tableau.specs.Rows.{line_in, row_at}
+use Rattle.run_equivalence.specs.IntegerRows.{IntegerRow, IsIntegerRow, number_at}
+use Rattle.run_equivalence.specs.WholePivoting.{cut}
+use Rattle.run_equivalence.proofs.IntegerRowSteps.{cut_within}
+use Rattle.run_equivalence.proofs.PivotSteps.{size_above, cut_above}
+use Rattle.integer_tableau.specs.Rows.{row_in, row_at}
 use Rattle.integer_tableau.specs.Stored.{rows_in}
 use Rattle.integer_tableau.proofs.Standing.{rows_many}
 use Rattle.integer_tableau.proofs.Written.{written_then}
@@ -17,12 +17,12 @@ exchange_row-a-requires-clause-row c = omega (arith, c.requires.pivot.row, rows_
 
 pub exchange_row-a-requires-clause-line : goal.exchange_row-a-requires-clause-line
 exchange_row-a-requires-clause-line c =
-    subst (IsLine (2 ^ 127 - 1) c.args.width) (sym c.cut_row.ensures.line) (cut_within (2 ^ 127 - 1) c.args.width (line_in c.args.width (row_at (rows_in c.args.self.now) c.args.r)) c.requires.line)
+    subst (IsIntegerRow (2 ^ 127 - 1) c.args.width) (sym c.cut_row.ensures.line) (cut_within (2 ^ 127 - 1) c.args.width (row_in c.args.width (row_at (rows_in c.args.self.now) c.args.r)) c.requires.line)
 
 pub exchange_row-a-requires-clause-above : goal.exchange_row-a-requires-clause-above
 exchange_row-a-requires-clause-above c =
-    let x = line_in c.args.width (row_at (rows_in c.args.self.now) c.args.r) in
-    subst (λ (l : Line). 0 < unsigned_abs (number_at l.numbers c.args.c)) (sym c.cut_row.ensures.line)
+    let x = row_in c.args.width (row_at (rows_in c.args.self.now) c.args.r) in
+    subst (λ (l : IntegerRow). 0 < unsigned_abs (number_at l.numbers c.args.c)) (sym c.cut_row.ensures.line)
     (size_above (number_at (cut x).numbers c.args.c) (cut_above x c.args.c c.requires.line.positive c.requires.pivot.above)).1
 
 pub size_anew-requires-clause-row : goal.size_anew-requires-clause-row

@@ -1,7 +1,7 @@
 use Rattle.std.proofs.Common.{◌≡◌, ◌<◌, ◌≤◌, ◌^◌, ◌∙◌, refl, sym, subst, arith, false, true, ℕ, ℤ, List}
 use Rattle.fraction_tableau.proofs.ArenaSteps.{at_set_same}
-use Rattle.run_equivalence.specs.Lines.{line_size}
-use Rattle.integer_tableau.specs.Rows.{line_in, row_at}
+use Rattle.run_equivalence.specs.IntegerRows.{row_size}
+use Rattle.integer_tableau.specs.Rows.{row_in, row_at}
 use Rattle.integer_tableau.specs.Stored.{is_wide_at, rows_in}
 use Rattle.integer_tableau.proofs.Changed.{changed_at, written}
 use Rattle.integer_tableau.proofs.Fronts.{size_of_front}
@@ -18,12 +18,12 @@ returns-clause-size c =
     elim c.if-index.branch [
       | then-index w ↦
           (let there = row_standing_wide t i c.requires.row (flag_there t i c.index.result.now true c.requires.row c.index.ensures w.if-index.true) in
-          subst (λ (k : ℕ). line_size (line_in n (row_at (rows_in t) i)) ≤ k) (sym w.size-is)
-          (subst (λ (z : List ℤ). line_size (line_in n z) ≤ w.wide_size-size.result) (w.row.ensures.row ∙ sym there) (size_of_front w.wide_size-size.result n w.row.result.now w.wide_size-size.ensures)))
+          subst (λ (k : ℕ). row_size (row_in n (row_at (rows_in t) i)) ≤ k) (sym w.size-is)
+          (subst (λ (z : List ℤ). row_size (row_in n z) ≤ w.wide_size-size.result) (w.row.ensures.row ∙ sym there) (size_of_front w.wide_size-size.result n w.row.result.now w.wide_size-size.ensures)))
       | else-index w ↦
           (let here = row_standing_short t i (flag_there t i c.index.result.now false c.requires.row c.index.ensures w.if-index.false) in
-          subst (λ (k : ℕ). line_size (line_in n (row_at (rows_in t) i)) ≤ k) (sym w.size-is)
-          (subst (λ (z : List ℤ). line_size (line_in n z) ≤ w.size_of.result) (w.row-else-index.ensures.row ∙ sym here) (size_of_front w.size_of.result n w.row-else-index.result.now w.size_of.ensures)))
+          subst (λ (k : ℕ). row_size (row_in n (row_at (rows_in t) i)) ≤ k) (sym w.size-is)
+          (subst (λ (z : List ℤ). row_size (row_in n z) ≤ w.size_of.result) (w.row-else-index.ensures.row ∙ sym here) (size_of_front w.size_of.result n w.row-else-index.result.now w.size_of.ensures)))
     ]
 
 pub returns-clause-written : goal.returns-clause-written
@@ -33,16 +33,16 @@ returns-clause-written c =
     let i = c.args.i in
     let size = c.if-index.size in
     let kept = at_set_same t.sizes.items i size 0 (omega arith) in
-    let low : line_size (line_in n (row_at (rows_in t) i)) ≤ size =
+    let low : row_size (row_in n (row_at (rows_in t) i)) ≤ size =
     elim c.if-index.branch [
       | then-index w ↦
           (let there = row_standing_wide t i c.requires.row (flag_there t i c.index.result.now true c.requires.row c.index.ensures w.if-index.true) in
-          subst (λ (k : ℕ). line_size (line_in n (row_at (rows_in t) i)) ≤ k) (sym w.size-is)
-          (subst (λ (z : List ℤ). line_size (line_in n z) ≤ w.wide_size-size.result) (w.row.ensures.row ∙ sym there) (size_of_front w.wide_size-size.result n w.row.result.now w.wide_size-size.ensures)))
+          subst (λ (k : ℕ). row_size (row_in n (row_at (rows_in t) i)) ≤ k) (sym w.size-is)
+          (subst (λ (z : List ℤ). row_size (row_in n z) ≤ w.wide_size-size.result) (w.row.ensures.row ∙ sym there) (size_of_front w.wide_size-size.result n w.row.result.now w.wide_size-size.ensures)))
       | else-index w ↦
           (let here = row_standing_short t i (flag_there t i c.index.result.now false c.requires.row c.index.ensures w.if-index.false) in
-          subst (λ (k : ℕ). line_size (line_in n (row_at (rows_in t) i)) ≤ k) (sym w.size-is)
-          (subst (λ (z : List ℤ). line_size (line_in n z) ≤ w.size_of.result) (w.row-else-index.ensures.row ∙ sym here) (size_of_front w.size_of.result n w.row-else-index.result.now w.size_of.ensures)))
+          subst (λ (k : ℕ). row_size (row_in n (row_at (rows_in t) i)) ≤ k) (sym w.size-is)
+          (subst (λ (z : List ℤ). row_size (row_in n z) ≤ w.size_of.result) (w.row-else-index.ensures.row ∙ sym here) (size_of_front w.size_of.result n w.row-else-index.result.now w.size_of.ensures)))
     ] in
     let small : is_wide_at t i ≡ false → size < 2 ^ 64 =
     elim c.if-index.branch [
@@ -52,7 +52,7 @@ returns-clause-written c =
     written n i t _
     (changed_at (stays refl) (put _ refl) (stays refl) (stays refl) refl refl)
     (record {
-      size = subst (λ (k : ℕ). line_size (line_in n (row_at (rows_in t) i)) ≤ k) (sym kept) low;
+      size = subst (λ (k : ℕ). row_size (row_in n (row_at (rows_in t) i)) ≤ k) (sym kept) low;
       short = λ e. ((c.requires.stored.short e).0, subst (λ (k : ℕ). k < 2 ^ 64) (sym kept) (small e));
       signs = c.requires.stored.signs;
     })

@@ -1,52 +1,42 @@
-use Rattle.std.proofs.Common.{◌≡◌, ◌∙◌, ◌+◌, ap, sym, subst, arith, rules, length, ℕ}
-use Rattle.run_equivalence.specs.WholeTurning.{cut}
-use Rattle.integer_tableau.specs.Rows.{IsPivot, IsPivoted, line_in, row_at}
-use Rattle.integer_tableau.specs.Stored.{AreKept, rows_in}
-use Rattle.integer_tableau.specs.Tables.{table_of, width_of}
-use Rattle.integer_tableau.specs.declared.objective.Objective.{Objective}
-use Rattle.integer_tableau.proofs.Pivoting.{pivoted_steps, pivoted_table}
-use Rattle.integer_tableau.proofs.Standing.{rows_many}
+use Rattle.std.proofs.Common.{◌≡◌, ◌∙◌, length, ap, sym, arith}
+use Rattle.std.specs.Prelude.{Some}
+use Rattle.run_equivalence.specs.IntegerRows.{IntegerTable}
+use Rattle.run_equivalence.specs.WholePivoting.{pivot_fits, whole_pivot}
+use Rattle.integer_tableau.specs.Stored.{rows_in}
+use Rattle.integer_tableau.specs.Tables.{as_whole}
+use Rattle.integer_tableau.proofs.Pivoting.{pivot_there, pivot_has_fit, pivot_none, pivot_moves}
+use Rattle.integer_tableau.proofs.Stored.{rows_count}
 use Rattle.integer_tableau.proofs.table.WholeTable.pivot.Goals as goal
 
-pub pivot-fits-requires-clause-step : goal.pivot-fits-requires-clause-step
-pivot-fits-requires-clause-step c =
-    let t = c.args.self.now in
-    let width : c.len-width.result + 1 ≡ width_of t = omega (arith, c.len-width.ensures, t.labels.ok) in
-    record {
-      limit = c.requires.limit;
-      pivot = subst (λ (w : ℕ). IsPivot w c.args.c c.args.r (rows_in t.rows)) (sym width) c.requires.pivot;
-      places = search rules;
-      kept = subst (λ (w : ℕ). AreKept c.args.limit w t.rows t.objective) (sym width) c.requires.within;
-    }
+pub list_column-count-requires-clause-within : goal.list_column-count-requires-clause-within
+list_column-count-requires-clause-within c = (c.args.limit, c.requires.within)
 
-pub exchange-requires-clause-row : goal.exchange-requires-clause-row
-exchange-requires-clause-row c =
-    let t = c.args.self.now in
-    omega (arith, c.requires.pivot.row, t.count, t.basics.ok, rows_many t.rows)
+pub leaving-requires-clause-within : goal.leaving-requires-clause-within
+leaving-requires-clause-within c = (c.args.limit, c.list_column-count.ensures.within c.args.limit c.requires.within)
 
-pub returns-then-fits-clause-table : goal.returns-then-fits-clause-table
-returns-then-fits-clause-table c done =
-    let t = c.args.self.now in
-    let r = c.args.r in
-    let old = rows_in t.rows in
-    let new = c.pivot-fits.new.self in
-    let last = c.pivot-fits.new.objective.numbers.items in
-    let same : length t.basics.items ≡ length old = omega (arith, t.count, t.basics.ok, rows_many t.rows) in
-    let width : c.len-width.result + 1 ≡ width_of t = omega (arith, c.len-width.ensures, t.labels.ok) in
-    let pivoted = subst (λ (w : ℕ). IsPivoted c.args.limit w c.args.c r (cut (line_in w (row_at old r))) old t.objective.numbers.items (rows_in new) last) width (c.pivot-fits.ensures.pivoted c.if-fits.true) in
-    let rows = ap rows_in c.exchange.ensures.rows in
-    let objective = ap (λ (o : Objective). o.numbers.items) c.exchange.ensures.objective in
-    (λ i. table_of (c.exchange.ensures.labels i) (c.exchange.ensures.basics i) (rows i) (objective i))
-    ∙ pivoted_table c.args.limit t.labels.items t.basics.items old (rows_in new) t.objective.numbers.items last c.args.c r same c.requires.pivot.row pivoted
+pub pivot_at-requires-clause-pivot : goal.pivot_at-requires-clause-pivot
+pivot_at-requires-clause-pivot c =
+    let t = c.list_column-count.new.self in
+    let same : length t.basics.items ≡ length (rows_in t.rows) = omega (arith, t.count, t.basics.ok, rows_count t.rows.is_wide.items t.rows.short.rows t.rows.wide.rows) in
+    pivot_there c.args.c c.in-Some.r t.labels.items t.basics.items (rows_in t.rows) (omega (arith, c.requires.column, c.list_column-count.ensures.shape.columns)) same (sym c.leaving.ensures ∙ c.in-Some.is)
 
-pub returns-then-fits-clause-fits : goal.returns-then-fits-clause-fits
-returns-then-fits-clause-fits c done =
-    let t = c.args.self.now in
-    let r = c.args.r in
-    let old = rows_in t.rows in
-    let new = c.pivot-fits.new.self in
-    let last = c.pivot-fits.new.objective.numbers.items in
-    let same : length t.basics.items ≡ length old = omega (arith, t.count, t.basics.ok, rows_many t.rows) in
-    let width : c.len-width.result + 1 ≡ width_of t = omega (arith, c.len-width.ensures, t.labels.ok) in
-    let pivoted = subst (λ (w : ℕ). IsPivoted c.args.limit w c.args.c r (cut (line_in w (row_at old r))) old t.objective.numbers.items (rows_in new) last) width (c.pivot-fits.ensures.pivoted c.if-fits.true) in
-    pivoted_steps c.args.limit t.labels.items t.basics.items old (rows_in new) t.objective.numbers.items last c.args.c r same c.requires.pivot.row pivoted
+pub pivot_at-requires-clause-within : goal.pivot_at-requires-clause-within
+pivot_at-requires-clause-within c = c.list_column-count.ensures.within c.args.limit c.requires.within
+
+pub returns-in-None-clause-pivoted : goal.returns-in-None-clause-pivoted
+returns-in-None-clause-pivoted c =
+    let same = c.list_column-count.ensures.table in (
+      ap (whole_pivot c.args.c) (sym same) ∙ pivot_none c.args.c (as_whole c.list_column-count.new.self) (sym c.leaving.ensures ∙ c.in-None.is),
+      same,
+      c.list_column-count.ensures.within c.args.limit c.requires.within,
+    )
+
+pub returns-then-pivot_at-clause-pivoted : goal.returns-then-pivot_at-clause-pivoted
+returns-then-pivot_at-clause-pivoted c =
+    let place = sym c.leaving.ensures ∙ c.in-Some.is in
+    let t = c.list_column-count.new.self in
+    let same = c.list_column-count.ensures.table in (
+      ap (whole_pivot c.args.c) (sym same) ∙ pivot_moves c.args.c c.in-Some.r (as_whole t) place ∙ ap Some (sym (c.pivot_at.ensures.table c.if-pivot_at.true)),
+      ap (λ (u : IntegerTable). pivot_fits c.args.limit c.args.c u) (sym same) ∙ pivot_has_fit c.args.limit c.args.c c.in-Some.r (as_whole t) place (c.pivot_at.ensures.fits c.if-pivot_at.true),
+      c.pivot_at.ensures.within c.if-pivot_at.true,
+    )

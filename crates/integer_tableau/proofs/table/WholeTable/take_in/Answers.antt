@@ -6,16 +6,16 @@ use Rattle.simplex_run.proofs.Listed.{listed_count}
 use Rattle.fraction_tableau.proofs.Filling.{numbers_last}
 use Rattle.fraction_tableau.specs.SparseRows.{lists_of}
 use Rattle.fraction_tableau.proofs.Parts.{length-rows, rows_long}
-use Rattle.run_equivalence.specs.Lines.{taken_in, table_taken_in, widest}
+use Rattle.run_equivalence.specs.IntegerRows.{taken_in, table_taken_in, widest}
 use Rattle.run_equivalence.specs.WholeRunning.{first_whole_table}
 use Rattle.integer_tableau.specs.declared.objective.Objective.{Objective}
 use Rattle.integer_tableau.specs.Eliminating.{IsKept}
-use Rattle.integer_tableau.specs.Rows.{line_in, lines_in}
+use Rattle.integer_tableau.specs.Rows.{row_in, integer_rows_in}
 use Rattle.integer_tableau.specs.Stored.{AreStored, rows_in}
 use Rattle.integer_tableau.specs.Tables.{table_of, width_of}
 use Rattle.integer_tableau.proofs.Taken.{taken_more, table_taken, lists_first}
 use Rattle.integer_tableau.proofs.Stored.{rows_count}
-use Rattle.integer_tableau.proofs.Turned.{line_wider}
+use Rattle.integer_tableau.proofs.Turned.{row_wider}
 use Rattle.integer_tableau.proofs.table.WholeTable.take_in.Goals as goal
 
 pub loop-i-init : goal.loop-i-init
@@ -48,10 +48,10 @@ loop-i-preserved g c =
       labels = told.labels ∙ inv.labels;
       columns = ap length told.labels ∙ inv.columns;
       basics = h.basics ∙ ap (λ (bs : List ℕ). bs ++ (n + i) ∷ []) inv.basics ∙ sym (numbers_last n i);
-      rows = ap (λ (k : ℕ). lines_in k (rows_in new.rows)) wide ∙ ap (lines_in w) h.rows ∙ taken_more w lists (rows_in old.rows) h.row i low inv.rows line;
-      objective = ap (λ (k : ℕ). line_in k new.objective.numbers.items) wide ∙ ap (λ (o : Objective). line_in w o.numbers.items) told.objective ∙ inv.objective;
+      rows = ap (λ (k : ℕ). integer_rows_in k (rows_in new.rows)) wide ∙ ap (integer_rows_in w) h.rows ∙ taken_more w lists (rows_in old.rows) h.row i low inv.rows line;
+      objective = ap (λ (k : ℕ). row_in k new.objective.numbers.items) wide ∙ ap (λ (o : Objective). row_in w o.numbers.items) told.objective ∙ inv.objective;
       stored = λ limit high. subst (λ (k : ℕ). AreStored limit k new.rows) (sym wide) (told.stored limit c.if-not-take_row.false high (inv.stored limit high));
-      last = subst (λ (k : ℕ). IsKept widest k new.objective.size (line_in k new.objective.numbers.items)) (sym wide) (subst (λ (o : Objective). IsKept widest w o.size (line_in w o.numbers.items)) (sym told.objective) inv.last);
+      last = subst (λ (k : ℕ). IsKept widest k new.objective.size (row_in k new.objective.numbers.items)) (sym wide) (subst (λ (o : Objective). IsKept widest w o.size (row_in w o.numbers.items)) (sym told.objective) inv.last);
       count = omega (arith, count, were, before);
       room = omega (arith, fits, room);
       line = omega (arith, inv.line, c.write_row.auto.row);
@@ -82,12 +82,12 @@ returns-clause-table g c done =
     let long = rows_long f (length p.costs.items) p.entries.items 0 p.ends.items in
     (λ k. table_of (labels k) (basics k) (rows_in self.rows) self.objective.numbers.items)
     ∙ table_taken (length p.costs.items + length lists) (numbers 0 (length p.costs.items)) slacks lists objective (rows_in self.rows) self.objective.numbers.items count
-    (ap (λ (ns : List ℕ). lines_in (length ns + 1) (rows_in self.rows)) (sym labels) ∙ rows)
-    (ap (λ (ns : List ℕ). line_in (length ns + 1) self.objective.numbers.items) (sym labels) ∙ inv.objective)
+    (ap (λ (ns : List ℕ). integer_rows_in (length ns + 1) (rows_in self.rows)) (sym labels) ∙ rows)
+    (ap (λ (ns : List ℕ). row_in (length ns + 1) self.objective.numbers.items) (sym labels) ∙ inv.objective)
     ∙ ap table_taken_in (lists_first (length p.costs.items) lists costs long)
 
 pub returns-clause-within : goal.returns-clause-within
 returns-clause-within g c limit done high =
     let inv = c.loop-i.invariant in
     let w = width_of c.loop-i.self in
-    record { rows = inv.stored limit high; objective = record { line = line_wider widest limit w _ high inv.last.line; size = inv.last.size } }
+    record { rows = inv.stored limit high; objective = record { line = row_wider widest limit w _ high inv.last.line; size = inv.last.size } }

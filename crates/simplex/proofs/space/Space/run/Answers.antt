@@ -29,8 +29,8 @@ run_given-requires g c =
       rows = omega (arith, short, inv.room);
     }
 
-pub returns-in-Ok-clause-answer : goal.returns-in-Ok-clause-answer
-returns-in-Ok-clause-answer g c =
+pub returns-in-Ok-clause-run : goal.returns-in-Ok-clause-run
+returns-in-Ok-clause-run g c =
     let value = g.N.Exact.fraction in
     let L = unsigned_abs g.N.Exact.LIMIT in
     let s = c.self.inside in
@@ -38,29 +38,11 @@ returns-in-Ok-clause-answer g c =
     let left = c.args.budget.now.limit - c.args.budget.now.spent in
     let spent = c.args.budget.now.spent in
     let told = subst (λ (r : Result Stage RunStop). IsEndOf value L (program_in value s.program) (run L (program_in value s.program) left spent) r c.run_given.new.budget.spent c.run_given.new.table c.run_given.new.whole) c.in-Ok.is c.run_given.ensures.run in
-    ap Ok c.is_optimum.ensures ∙ told.answer ∙ ap (λ (q : LinearProgram). answer_of (run L q left spent)) (sym there.1)
-
-pub returns-in-Ok-clause-contents : goal.returns-in-Ok-clause-contents
-returns-in-Ok-clause-contents g c =
-    let value = g.N.Exact.fraction in
-    let L = unsigned_abs g.N.Exact.LIMIT in
-    let s = c.self.inside in
-    let there = program_is_given value L s.stage (program_in value s.program) s.table s.whole c.args.self.now.contents (ap (λ (w : Workspace). w.contents) c.self.view_is) c.requires c.self.invariant.stage in
-    let left = c.args.budget.now.limit - c.args.budget.now.spent in
-    let spent = c.args.budget.now.spent in
-    let told = subst (λ (r : Result Stage RunStop). IsEndOf value L (program_in value s.program) (run L (program_in value s.program) left spent) r c.run_given.new.budget.spent c.run_given.new.table c.run_given.new.whole) c.in-Ok.is c.run_given.ensures.run in
-    told.contents ∙ ap (λ (q : LinearProgram). contents_after (run L q left spent)) (sym there.1)
-
-pub returns-in-Ok-clause-units : goal.returns-in-Ok-clause-units
-returns-in-Ok-clause-units g c =
-    let value = g.N.Exact.fraction in
-    let L = unsigned_abs g.N.Exact.LIMIT in
-    let s = c.self.inside in
-    let there = program_is_given value L s.stage (program_in value s.program) s.table s.whole c.args.self.now.contents (ap (λ (w : Workspace). w.contents) c.self.view_is) c.requires c.self.invariant.stage in
-    let left = c.args.budget.now.limit - c.args.budget.now.spent in
-    let spent = c.args.budget.now.spent in
-    let told = subst (λ (r : Result Stage RunStop). IsEndOf value L (program_in value s.program) (run L (program_in value s.program) left spent) r c.run_given.new.budget.spent c.run_given.new.table c.run_given.new.whole) c.in-Ok.is c.run_given.ensures.run in
-    told.units ∙ ap (λ (q : LinearProgram). units_of (run L q left spent)) (sym there.1)
+    record {
+      answer = ap Ok c.is_optimum.ensures ∙ told.answer ∙ ap (λ (q : LinearProgram). answer_of (run L q left spent)) (sym there.1);
+      contents = told.contents ∙ ap (λ (q : LinearProgram). contents_after (run L q left spent)) (sym there.1);
+      units = told.units ∙ ap (λ (q : LinearProgram). units_of (run L q left spent)) (sym there.1);
+    }
 
 pub returns-in-Ok-clause-holds : goal.returns-in-Ok-clause-holds
 returns-in-Ok-clause-holds g c =
@@ -70,8 +52,8 @@ returns-in-Ok-clause-holds g c =
     let there = program_is_given value L s.stage (program_in value s.program) s.table s.whole c.args.self.now.contents (ap (λ (w : Workspace). w.contents) c.self.view_is) c.requires c.self.invariant.stage in
     ends_are_as_said L (program_given c.args.self.now.contents) (c.args.budget.now.limit - c.args.budget.now.spent) c.args.budget.now.spent (program_stands L (program_in value s.program) c.args.self.now.contents there.2 there.1)
 
-pub returns-in-Err-clause-answer : goal.returns-in-Err-clause-answer
-returns-in-Err-clause-answer g c =
+pub returns-in-Err-clause-run : goal.returns-in-Err-clause-run
+returns-in-Err-clause-run g c =
     let value = g.N.Exact.fraction in
     let L = unsigned_abs g.N.Exact.LIMIT in
     let s = c.self.inside in
@@ -79,29 +61,11 @@ returns-in-Err-clause-answer g c =
     let left = c.args.budget.now.limit - c.args.budget.now.spent in
     let spent = c.args.budget.now.spent in
     let told = subst (λ (r : Result Stage RunStop). IsEndOf value L (program_in value s.program) (run L (program_in value s.program) left spent) r c.run_given.new.budget.spent c.run_given.new.table c.run_given.new.whole) c.in-Err.is c.run_given.ensures.run in
-    told.answer ∙ ap (λ (q : LinearProgram). answer_of (run L q left spent)) (sym there.1)
-
-pub returns-in-Err-clause-contents : goal.returns-in-Err-clause-contents
-returns-in-Err-clause-contents g c =
-    let value = g.N.Exact.fraction in
-    let L = unsigned_abs g.N.Exact.LIMIT in
-    let s = c.self.inside in
-    let there = program_is_given value L s.stage (program_in value s.program) s.table s.whole c.args.self.now.contents (ap (λ (w : Workspace). w.contents) c.self.view_is) c.requires c.self.invariant.stage in
-    let left = c.args.budget.now.limit - c.args.budget.now.spent in
-    let spent = c.args.budget.now.spent in
-    let told = subst (λ (r : Result Stage RunStop). IsEndOf value L (program_in value s.program) (run L (program_in value s.program) left spent) r c.run_given.new.budget.spent c.run_given.new.table c.run_given.new.whole) c.in-Err.is c.run_given.ensures.run in
-    told.contents ∙ ap (λ (q : LinearProgram). contents_after (run L q left spent)) (sym there.1)
-
-pub returns-in-Err-clause-units : goal.returns-in-Err-clause-units
-returns-in-Err-clause-units g c =
-    let value = g.N.Exact.fraction in
-    let L = unsigned_abs g.N.Exact.LIMIT in
-    let s = c.self.inside in
-    let there = program_is_given value L s.stage (program_in value s.program) s.table s.whole c.args.self.now.contents (ap (λ (w : Workspace). w.contents) c.self.view_is) c.requires c.self.invariant.stage in
-    let left = c.args.budget.now.limit - c.args.budget.now.spent in
-    let spent = c.args.budget.now.spent in
-    let told = subst (λ (r : Result Stage RunStop). IsEndOf value L (program_in value s.program) (run L (program_in value s.program) left spent) r c.run_given.new.budget.spent c.run_given.new.table c.run_given.new.whole) c.in-Err.is c.run_given.ensures.run in
-    told.units ∙ ap (λ (q : LinearProgram). units_of (run L q left spent)) (sym there.1)
+    record {
+      answer = told.answer ∙ ap (λ (q : LinearProgram). answer_of (run L q left spent)) (sym there.1);
+      contents = told.contents ∙ ap (λ (q : LinearProgram). contents_after (run L q left spent)) (sym there.1);
+      units = told.units ∙ ap (λ (q : LinearProgram). units_of (run L q left spent)) (sym there.1);
+    }
 
 pub returns-in-Err-clause-holds : goal.returns-in-Err-clause-holds
 returns-in-Err-clause-holds g c =

@@ -6,7 +6,7 @@ use Rattle.integer_tableau.specs.Tables.{as_whole}
 use Rattle.fraction_tableau.specs.SparseRows.{program_in}
 use Rattle.simplex.specs.declared.stage.Stage.{Stage}
 use Rattle.simplex_run.specs.Table.{right_side, where_basic}
-use Rattle.run_equivalence.specs.Lines.{entry_of}
+use Rattle.run_equivalence.specs.IntegerRows.{entry_of}
 use Rattle.run_equivalence.specs.WholeRunning.{whole_where_basic}
 use Rattle.simplex.specs.Spaces.{Workspace, Contents, x_of, IsAt}
 use Rattle.simplex.proofs.SpaceSteps.{optimum_is_there, whole_is_there}

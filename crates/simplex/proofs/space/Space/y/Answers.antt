@@ -5,14 +5,14 @@ use Rattle.fraction_tableau.specs.Tables.{as_table}
 use Rattle.integer_tableau.specs.Tables.{as_whole}
 use Rattle.fraction_tableau.specs.SparseRows.{program_in}
 use Rattle.simplex.specs.declared.stage.Stage.{Stage}
-use Rattle.simplex_run.specs.Run.{price_of}
-use Rattle.run_equivalence.specs.WholeRunning.{whole_price}
+use Rattle.simplex_run.specs.Run.{reduced_cost_of}
+use Rattle.run_equivalence.specs.WholeRunning.{whole_reduced_cost}
 use Rattle.simplex.specs.Spaces.{Workspace, Contents, y_of, IsAt}
 use Rattle.simplex.proofs.SpaceSteps.{optimum_is_there, whole_is_there}
 use Rattle.simplex.proofs.space.Space.y.Goals as goal
 
-pub price_at-requires : goal.price_at-requires
-price_at-requires g c =
+pub reduced_cost-requires : goal.reduced_cost-requires
+reduced_cost-requires g c =
     let s = c.self.inside in
     let r = subst (λ (st : Stage). IsAt (unsigned_abs g.N.Exact.LIMIT) st (program_in g.N.Exact.fraction s.program) s.table s.whole) c.in-WholeOptimal.is c.self.invariant.stage in
     let t = s.whole in
@@ -20,7 +20,7 @@ price_at-requires g c =
     let m = length t.basics.items in
     let i = c.args.i in
     let there = whole_is_there g.N.Exact.fraction s.stage (program_in g.N.Exact.fraction s.program) s.table t c.args.self.now.contents (ap (λ (w : Workspace). w.contents) c.self.view_is) c.in-WholeOptimal.is in
-    let f = whole_price (as_whole t) in
+    let f = whole_reduced_cost (as_whole t) in
     let low = subst (λ (d : Contents). i < length (y_of d)) there c.requires.place in
     record { within = r; variable = omega (arith, low, listed_count f n m, c.variables.ensures) }
 
@@ -32,7 +32,7 @@ overflow_add-variables g c =
     let m = length t.basics.items in
     let i = c.args.i in
     let there = whole_is_there g.N.Exact.fraction s.stage (program_in g.N.Exact.fraction s.program) s.table t c.args.self.now.contents (ap (λ (w : Workspace). w.contents) c.self.view_is) c.in-WholeOptimal.is in
-    let f = whole_price (as_whole t) in
+    let f = whole_reduced_cost (as_whole t) in
     let low = subst (λ (d : Contents). i < length (y_of d)) there c.requires.place in
     omega (arith, low, listed_count f n m, c.variables.ensures, t.count, t.basics.ok, t.basics.small, t.labels.ok, t.labels.small)
 
@@ -44,13 +44,13 @@ returns-in-WholeOptimal g c =
     let m = length t.basics.items in
     let i = c.args.i in
     let there = whole_is_there g.N.Exact.fraction s.stage (program_in g.N.Exact.fraction s.program) s.table t c.args.self.now.contents (ap (λ (w : Workspace). w.contents) c.self.view_is) c.in-WholeOptimal.is in
-    let f = whole_price (as_whole t) in
+    let f = whole_reduced_cost (as_whole t) in
     let low = subst (λ (d : Contents). i < length (y_of d)) there c.requires.place in
-    c.price_at.ensures ∙ ap (λ (k : ℕ). f (k + i)) c.variables.ensures
+    c.reduced_cost.ensures ∙ ap (λ (k : ℕ). f (k + i)) c.variables.ensures
     ∙ sym (ap (λ (d : Contents). at (y_of d) i) there ∙ listed_from f n m i (omega (arith, low, listed_count f n m)))
 
-pub price_at-requires-in_default : goal.price_at-requires-in_default
-price_at-requires-in_default g c =
+pub reduced_cost-requires-in_default : goal.reduced_cost-requires-in_default
+reduced_cost-requires-in_default g c =
     let value = g.N.Exact.fraction in
     let s = c.self.inside in
     let t = s.table in
@@ -58,7 +58,7 @@ price_at-requires-in_default g c =
     let m = length t.rows.rows in
     let there = optimum_is_there value s.stage (program_in value s.program) t s.whole c.args.self.now.contents (ap (λ (w : Workspace). w.contents) c.self.view_is) c.requires.found c.in_default.not-WholeOptimal in
     let low = subst (λ (d : Contents). c.args.i < length (y_of d)) there c.requires.place in
-    omega (arith, low, listed_count (price_of (as_table value t)) n m, c.variables-in_default.ensures, t.count, t.basics.ok)
+    omega (arith, low, listed_count (reduced_cost_of (as_table value t)) n m, c.variables-in_default.ensures, t.count, t.basics.ok)
 
 pub returns-in_default : goal.returns-in_default
 returns-in_default g c =
@@ -69,9 +69,9 @@ returns-in_default g c =
     let m = length t.rows.rows in
     let i = c.args.i in
     let there = optimum_is_there value s.stage (program_in value s.program) t s.whole c.args.self.now.contents (ap (λ (w : Workspace). w.contents) c.self.view_is) c.requires.found c.in_default.not-WholeOptimal in
-    let f = price_of (as_table value t) in
+    let f = reduced_cost_of (as_table value t) in
     let low = subst (λ (d : Contents). i < length (y_of d)) there c.requires.place in
-    c.price_at-in_default.ensures ∙ ap (λ (k : ℕ). f (k + i)) c.variables-in_default.ensures
+    c.reduced_cost-in_default.ensures ∙ ap (λ (k : ℕ). f (k + i)) c.variables-in_default.ensures
     ∙ sym (ap (λ (d : Contents). at (y_of d) i) there ∙ listed_from f n m i (omega (arith, low, listed_count f n m)))
 
 pub overflow_add-variables-in_default : goal.overflow_add-variables-in_default
@@ -82,6 +82,6 @@ overflow_add-variables-in_default g c =
     let n = length t.labels.items in
     let m = length t.rows.rows in
     let there = optimum_is_there value s.stage (program_in value s.program) t s.whole c.args.self.now.contents (ap (λ (w : Workspace). w.contents) c.self.view_is) c.requires.found c.in_default.not-WholeOptimal in
-    let f = price_of (as_table value t) in
+    let f = reduced_cost_of (as_table value t) in
     let low = subst (λ (d : Contents). c.args.i < length (y_of d)) there c.requires.place in
     omega (arith, low, listed_count f n m, c.variables-in_default.ensures, t.count, t.basics.ok, t.basics.small, t.labels.ok, t.labels.small)

@@ -1,0 +1,3 @@
+pub mod ReadSteps
+pub mod SolveSteps
+pub mod Choosing

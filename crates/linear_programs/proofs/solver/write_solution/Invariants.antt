@@ -1,0 +1,7 @@
+use Rattle.simplex.specs.Spaces.{x_of}
+use Rattle.linear_programs.proofs.ReadSteps.{Written}
+use Rattle.linear_programs.proofs.solver.write_solution.Given as goal
+
+-- the entries before this one are written
+abbrev pub invariant-loop-j : goal.invariant-loop-j
+invariant-loop-j g l = Written g.N.Exact.fraction (x_of l.space.contents) l.j l.x

@@ -1,8 +1,0 @@
-use Rattle.run_equivalence.proofs.LineSteps.{sizes_bound, sizes_least}
-use Rattle.run_equivalence.proofs.whole_laws.line_sizes.Goals as goal
-
-pub returns-clause-bound : goal.returns-clause-bound
-returns-clause-bound c = sizes_bound
-
-pub returns-clause-least : goal.returns-clause-least
-returns-clause-least c = sizes_least
