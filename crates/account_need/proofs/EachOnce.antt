@@ -76,3 +76,12 @@ step x v E = by (is_same_option x v) refl (has E v) refl
 pub once_more : (xs : List (List ℤ)) (v : List ℤ) → each_once (xs ++ v ∷ []) ≡ with_option (each_once xs) v
 once_more [] v = refl
 once_more (x ∷ xs) v = ap (λ (options : List (List ℤ)). x ∷ without x options) (once_more xs v) ∙ step x v (each_once xs)
+
+-- and each of them is still there
+pub has_once : (options : List (List ℤ)) (v : List ℤ) → has (each_once options) v ≡ has options v
+has_once [] v = refl
+has_once (x ∷ options) v = by (is_same_option x v) refl (has_once options v)
+  where
+    by : (b : Bool) → is_same_option x v ≡ b → has (each_once options) v ≡ has options v → has (each_once (x ∷ options)) v ≡ has (x ∷ options) v
+    by true e h = ap (λ (b : Bool). b || has (without x (each_once options)) v) e ∙ sym (ap (λ (b : Bool). b || has options v) e)
+    by false e h = ap (λ (b : Bool). is_same_option x v || b) (has_without x v (each_once options) e ∙ h)

@@ -1,7 +1,7 @@
 -- What an option would pay, in numbers of 64 bits.
-use Rattle.std.proofs.Common.{◌≡◌, ◌≤◌, ℕ, ℤ, pos, ◌+ℤ◌, ◌*ℤ◌, unsigned_abs, FitsSigned, to_z, of_z, refl, arith}
+use Rattle.std.proofs.Common.{◌≡◌, ◌≤◌, ℕ, ℤ, pos, ◌+ℤ◌, ◌*ℤ◌, unsigned_abs, FitsSigned, to_z, of_z, refl, arith, ap, ◌∙◌}
 use Rattle.std.proofs.lemmas.Int.{ints, fits_signed_from_abs, to_z-of_z, to_z_pos}
-use mir.Syntax.{w64}
+use mir.Syntax.{w16, w64}
 use Rattle.account_need.proofs.OnLine.{value_small}
 
 fits_small : (z : ℤ) → unsigned_abs z ≤ 2000000000000 → FitsSigned w64 z
@@ -25,3 +25,11 @@ pub sum_small : (a b : ℤ) (t s : ℕ) → unsigned_abs a ≤ 1000000000 → un
 sum_small a b t s ha hb ht hs =
     let sizes = value_small a b t s ha hb ht hs in
     omega (arith, ints, sizes.0, sizes.1)
+
+-- a leg: its count and what its option pays
+pub leg_bits : (n f : ℤ) (h : ℕ) → f ≡ to_z w16 (of_z w16 n) → unsigned_abs n ≤ 1000 → h ≤ 2000000000000 → to_z w64 (of_z w64 f) *ℤ to_z w64 h ≡ n *ℤ pos h
+leg_bits n f h from few low =
+    let count : f ≡ n = from ∙ to_z-of_z w16 n (fits_signed_from_abs w16 n (omega (arith, few))) in
+    let en : to_z w64 (of_z w64 f) ≡ n = ap (λ (z : ℤ). to_z w64 (of_z w64 z)) count ∙ to_z-of_z w64 n (fits_small n (omega (arith, few))) in
+    let eh : to_z w64 h ≡ pos h = to_z_pos w64 h (omega (arith, low)) in
+    (λ j. en j *ℤ eh j)

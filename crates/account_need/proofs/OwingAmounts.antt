@@ -1,6 +1,6 @@
 -- What the entries of a run owe at a state: the sums what is owed of them, the live sells of one
 -- option at least what these may lose, and the calls that bound nothing.
-use Rattle.std.proofs.Common.{◌≡◌, ℕ, zero, suc, ◌+◌, ◌*◌, ◌≤◌, ◌++◌, Bool, true, false, cond, List, [], ◌∷◌, length, map, filter, replicate, All, arith, ℤ, pos, negsuc, ◌+ℤ◌, ◌-ℤ◌, ◌*ℤ◌, ◌≤ℤ◌, unsigned_abs, refl, ap, sym, ◌∙◌, subst}
+use Rattle.std.proofs.Common.{◌≡◌, ℕ, zero, suc, ◌+◌, ◌-◌, ◌*◌, ◌≤◌, ◌++◌, Bool, true, false, cond, List, [], ◌∷◌, length, map, filter, get_or, replicate, All, arith, ℤ, pos, negsuc, ◌+ℤ◌, ◌-ℤ◌, ◌*ℤ◌, ◌≤ℤ◌, unsigned_abs, refl, ap, sym, ◌∙◌, subst}
 use Rattle.std.specs.Int.{◌∣◌}
 use Rattle.std.specs.Ordering.{int_eq}
 use Rattle.std.proofs.lemmas.Bool.Decides.{Decides-int_eq}
@@ -8,7 +8,7 @@ use Rattle.std.proofs.lemmas.Int.{ints}
 use Rattle.std.proofs.lemmas.List.{length-replicate, length-append}
 use Rattle.arithmetic.specs.Sums.{positive_part}
 use Rattle.arithmetic.proofs.Integers.{*ℤ_cancel, *ℤ_mono, swap_factors}
-use Rattle.arithmetic.proofs.Parts.{part_below, positive_part_least}
+use Rattle.arithmetic.proofs.Parts.{part_below, positive_part_is, positive_part_least}
 use Rattle.arithmetic.proofs.Products.{products}
 use Rattle.arithmetic.proofs.Sums.{All-head, All-tail}
 use Rattle.exact_num.specs.Fraction.{Fraction, IsDefined, IsNotBelowZero, reduced, whole}
@@ -119,6 +119,15 @@ one_leg_pays : (leg : BundleLeg) (z : List ℕ) → int_eq leg.count (pos 1) ≡
 one_leg_pays leg z e =
     let once = (Decides-int_eq leg.count (pos 1)).0 e in
     omega (arith, ints, ap (λ (n : ℤ). n *ℤ pos (payoff leg.option z)) once)
+
+pub single_loss_is : (side : Side) (legs : List BundleLeg) (leg : BundleLeg) (paid : ℕ) (z : List ℕ) → if_sell side (counts_once legs) ≡ true → leg ≡ get_or legs 0 leg
+    → positive_part (cost_by side paid (bundle_payoff legs z)) ≡ payoff leg.option z - paid
+single_loss_is Buy legs leg paid z e is = absurd (cc)
+single_loss_is Sell [] leg paid z e is = absurd (cc)
+single_loss_is Sell (first ∷ []) leg paid z e is =
+    ap (λ (y : ℤ). positive_part (y -ℤ pos paid)) (one_leg_pays first z e ∙ ap (λ (l : BundleLeg). pos (payoff l.option z)) (sym is))
+    ∙ positive_part_is (payoff leg.option z) paid
+single_loss_is Sell (first ∷ next ∷ legs) leg paid z e is = absurd (cc)
 
 less_than_paid : (pays : ℤ) (h paid : ℕ) → pays ≡ pos h → pos (positive_part (pays -ℤ pos paid)) ≤ℤ pays
 less_than_paid pays h paid is =

@@ -1,6 +1,6 @@
 -- What the code holds on one underlying: prices, sums and orders, and the greatest exposure as it
 -- goes from bend to bend.
-use Rattle.std.specs.Prelude.{◌≡◌, ◌≤◌, ◌*◌, ◌++◌, ℕ, Bool, int_lt, List, [], ◌∷◌, filter, length, map, ℤ, pos, Option, Some, None, unsigned_abs, if◌then◌else◌}
+use Rattle.std.specs.Prelude.{◌≡◌, ◌≤◌, ◌*◌, ◌++◌, ℕ, Bool, false, not, int_lt, List, [], ◌∷◌, filter, length, map, ℤ, pos, Option, Some, None, unsigned_abs, if◌then◌else◌}
 use Rattle.std.specs.Int.{int_max}
 use Rattle.std.specs.List.{All, flat_map}
 use Rattle.form.specs.declared.bundles.Bundle.{Bundle}
@@ -8,7 +8,8 @@ use Rattle.form.specs.declared.legs.Leg.{Leg}
 use Rattle.form.specs.declared.orders.Order.{Order}
 use Rattle.form.specs.declared.limits.TheConstants.{MAX_ORDERS}
 use Rattle.form.specs.Limits.{IsListed, IsOrderWithin}
-use Rattle.form.specs.Payoff.{IsOnCount, bundle_legs, legs_in, option_of, scale_of}
+use Rattle.form.specs.Payoff.{BundleLeg, IsOnCount, bundle_legs, legs_in, option_of, scale_of}
+use Rattle.form.specs.Vector.{is_same_option}
 use Rattle.settlement.specs.declared.position.Position.{Position}
 use Rattle.portfolio_margin.specs.Need.{ceil_of}
 use Rattle.account_need.specs.declared.price.Price.{Price}
@@ -35,6 +36,12 @@ pub record IsSumOn (count : ℕ) (s : FormSum) : Type 0 where
   pub option : IsListed (option_of s.form)
   pub on : s.form.count ≡ count
   pub small : unsigned_abs s.sum ≤ 72057594037927936000000
+
+-- whether another option is the only one of a bundle
+abbrev pub is_of_another : List BundleLeg → List ℤ → Bool
+is_of_another [] v = false
+is_of_another (leg ∷ []) v = not (is_same_option leg.option v)
+is_of_another (leg ∷ next ∷ legs) v = false
 
 -- on one underlying
 abbrev pub IsLineBundle : Bundle → Type 0

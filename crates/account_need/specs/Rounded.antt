@@ -46,8 +46,11 @@ each_once (v ∷ options) = v ∷ filter (λ w. not (is_same_option w v)) (each_
 abbrev pub options_of : List BundleLeg → List (List ℤ)
 options_of legs = map (λ (leg : BundleLeg). leg.option) legs
 
+abbrev pub options_at : List Position → List (List ℤ)
+options_at positions = flat_map (λ (p : Position). options_of (bundle_legs p.bundle)) positions
+
 abbrev pub options_held : List Position → List (List ℤ)
-options_held positions = each_once (flat_map (λ (p : Position). options_of (bundle_legs p.bundle)) positions)
+options_held positions = each_once (options_at positions)
 
 -- the sums of all options that are held, in the order in which these first come
 abbrev pub sums_held : List Position → List OptionSum

@@ -1,51 +1,64 @@
 //! What live orders may lose at a price, and what is reserved for them.
-ghost use Rattle.std.specs.Prelude.{◌≡◌, ◌≤◌, ◌+◌, ◌*◌, length, pos, ◌-ℤ◌};
+ghost use Rattle.std.specs.Prelude.{◌≡◌, ◌≤◌, ◌*◌, length, true, unsigned_abs};
 ghost use Rattle.std.specs.List.{All};
 ghost use Rattle.form.specs.Limits.{IsOrderWithin};
 ghost use Rattle.form.specs.Payoff.{bundle_legs, bundle_payoff};
 ghost use Rattle.form.specs.declared.limits.TheConstants.{MAX_ORDERS};
 ghost use Rattle.account_need.specs.Exposure.{loss_at, losses_at, reserve_for, reserve_of};
 ghost use Rattle.account_need.specs.Prices.{IsLineBundle, IsLineOrder, price_vector};
+ghost use Rattle.account_need.specs.Several.{is_single_sell};
 
+use crate::kinds::is_single_sell;
 use crate::options::pays;
 use crate::price::Price;
 use form::{Bundle, Order, Side};
 
-// What the legs of a bundle with a count above 0 pay, and the others.
-#[derive(Clone, Copy)]
-struct Paid {
-    above: u64,
-    below: u64,
-}
-
-fn bundle_pays(bundle: &Bundle, at: &Price) -> Paid
+// What one bundle pays, times t.
+fn bundle_pays(bundle: &Bundle, at: &Price) -> i64
     requires { IsLineBundle bundle.now }
-    ensures pays { bundle_payoff (bundle_legs bundle.now) (price_vector at.now)
-        ≡ pos result.above -ℤ pos result.below }
-    ensures small { result.above + result.below ≤ 8000000000000000 }
+    ensures pays { result ≡ bundle_payoff (bundle_legs bundle.now) (price_vector at.now) }
+    ensures small { unsigned_abs result ≤ 8000000000000000 }
 {
-    let (mut above, mut below) = (0, 0);
+    let mut total: i64 = 0;
     for leg in bundle.as_slice() {
-        let amount = u64::from(leg.count.unsigned_abs()) * pays(&leg.form, at);
-        if leg.count > 0 {
-            above += amount;
-        } else {
-            below += amount;
-        }
+        total += i64::from(leg.count) * pays(&leg.form, at) as i64;
     }
-    Paid { above, below }
+    total
 }
 
-// What one bundle of the order may lose.
-fn loss(order: &Order, at: &Price) -> u64
+// What one bundle of the order may lose, where that is one option that is sold once.
+fn single_loss(order: &Order, at: &Price) -> u64
+    requires order { IsLineOrder order.now }
+    requires single { is_single_sell order.now ≡ true }
+    ensures loss { result ≡ loss_at (price_vector at.now) order.now }
+    ensures small { result ≤ 8000000000000000 }
+{
+    pays(&order.bundle.as_slice()[0].form, at).saturating_sub(order.price * at.t)
+}
+
+// And of any bundle.
+fn bundle_loss(order: &Order, at: &Price) -> u64
     requires { IsLineOrder order.now }
     ensures loss { result ≡ loss_at (price_vector at.now) order.now }
     ensures small { result ≤ 8000000000000000 }
 {
     let paid = bundle_pays(&order.bundle, at);
-    match order.side {
-        Side::Buy => paid.below.saturating_sub(paid.above),
-        Side::Sell => paid.above.saturating_sub(paid.below + order.price * at.t),
+    let cost = match order.side {
+        Side::Buy => -paid,
+        Side::Sell => paid - (order.price * at.t) as i64,
+    };
+    if cost > 0 { cost as u64 } else { 0 }
+}
+
+fn loss(order: &Order, at: &Price) -> u64
+    requires { IsLineOrder order.now }
+    ensures loss { result ≡ loss_at (price_vector at.now) order.now }
+    ensures small { result ≤ 8000000000000000 }
+{
+    if is_single_sell(order) {
+        single_loss(order, at)
+    } else {
+        bundle_loss(order, at)
     }
 }
 

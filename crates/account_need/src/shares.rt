@@ -8,6 +8,7 @@ ghost use Rattle.frac.specs.Value.{fraction_of};
 ghost use Rattle.portfolio_margin.specs.Need.{ceil_of};
 ghost use Rattle.portfolio_margin.specs.Owed.{owed_by};
 ghost use Rattle.settlement.specs.Positions.{IsHeldPosition};
+ghost use Rattle.account_need.specs.Prices.{is_of_another};
 ghost use Rattle.account_need.specs.Rounded.{count_of, part_owed, unit};
 
 use exact_num::Exact;
@@ -18,11 +19,19 @@ use settlement::Position;
 // 2^32.
 const UNIT: u128 = 4_294_967_296;
 
-// Whether the forms are the same option.
+// Whether the forms are the same option. Most that are not have another strike.
 pub(crate) fn is_same(a: &Form, b: &Form) -> bool
     ensures { result ≡ is_same_option (option_of a.now) (option_of b.now) }
 {
-    *a == *b
+    a.entries[0] == b.entries[0] && *a == *b
+}
+
+// Whether another option is the only one of the bundle.
+fn is_of_another(bundle: &Bundle, form: &Form) -> bool
+    ensures { result ≡ is_of_another (bundle_legs bundle.now) (option_of form.now) }
+{
+    let legs = bundle.as_slice();
+    legs.len() == 1 && !is_same(&legs[0].form, form)
 }
 
 // How often the option counts in the bundle.
@@ -78,6 +87,9 @@ pub(crate) fn part_owed(position: &Position, form: &Form) -> i128
     ensures part { result ≡ part_owed (option_of form.now) position.now }
     ensures small { unsigned_abs result ≤ 4294967296000000 }
 {
+    if is_of_another(&position.bundle, form) {
+        return 0;
+    }
     let count = owed_count(position, form);
     if count == 0 {
         return 0;
