@@ -128,7 +128,8 @@ pub fn least_bound(
     let form = class_at(classes, class).form;
     let mut table = first_table(alloc, &form, point, entries)?;
     add_classes(&mut table, classes, cell, point, entries)?;
-    table.primal(0, usize::MAX, CHORD_TURNS)?;
+    table.flip_where_below(0);
+    let _ = table.dual(0, CHORD_TURNS)?;
     let plus = mixes_in(&table, cell, entries, true)?;
     let minus = mixes_in(&table, cell, entries, false)?;
     Ok(Chord {

@@ -35,6 +35,9 @@ const SIGNED_COST: f64 = 0.05;
 const KINK_COST: f64 = 1.0;
 /// More than any scaled liability.
 pub const VERY_MUCH: f64 = 1e9;
+// A multiplier of a class with a sign is at most 2 to this power in units: no limit, and a float has
+// it as it is.
+const ENDLESS_BITS: u32 = 120;
 // The bytes of a class that stands with its whole kink, about.
 const FULL_BYTES: f64 = 4.0;
 
@@ -224,7 +227,7 @@ fn lever_of(closing: Closing, cell: Cell, place: usize, class: &Class) -> Lever 
     let sign = sign_at(cell.signs, place);
     let kink = whole_at(&closing.net.kinks, place);
     let most = if sign != 0 {
-        i128::MAX
+        two_to(ENDLESS_BITS)
     } else {
         0i128.saturating_sub(kink).max(0)
     };

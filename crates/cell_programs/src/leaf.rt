@@ -494,6 +494,9 @@ impl CellLeaf {
             }
             found = self.solve(aim, bounds, &looking.offers, work)?;
         }
+        if looking.checks > MOST_CHECKS {
+            found = self.solve(aim, bounds, &[], work)?;
+        }
         Ok(found)
     }
 

@@ -37,11 +37,11 @@ pub struct Limits {
     pub room: Room,
 }
 
-/// The limits that a proposal is made within: ten times what the dearest of the books of 256 orders
-/// on three underlyings cost that were tried, and a line of 16,777,216 bytes.
+/// The limits that a proposal is made within: more than twenty times what the dearest of the books of
+/// 256 orders on three underlyings cost that were tried, and a line of 16,777,216 bytes.
 pub const LIMITS: Limits = Limits {
     caps: Caps {
-        work: 3_200_000_000,
+        work: 4_000_000_000,
         nodes: 50_000,
     },
     room: Room {

@@ -19,8 +19,8 @@ const RAY_FACTOR: f64 = 1.0000000149011612;
 const DUST: f64 = 9.094947017729282e-13;
 
 const LONG_DUST: f64 = 3.725290298461914e-9;
-// Rows whose slack is at least 2^-6 leave where there are too many.
-const FAR: f64 = 0.015625;
+// Rows whose slack is at least so much of the surplus leave where there are too many.
+const FAR: f64 = 0.25;
 
 const MASTER_TURNS: Turns = Turns {
     small: SMALL,
@@ -283,22 +283,23 @@ impl Master {
         if rows <= orders.saturating_mul(3).saturating_add(60) {
             return;
         }
+        let far = from_zero(self.surplus(book)) * FAR + SMALL;
         for row in (1..rows).rev() {
-            self.drop_where_far(row, orders);
+            self.drop_where_far(row, orders, far);
         }
     }
 
     // Takes the row out where it is that of a state far from tight.
-    fn drop_where_far(&mut self, row: usize, orders: usize) {
+    fn drop_where_far(&mut self, row: usize, orders: usize, far: f64) {
         let variable = variable_at(self.table.basic(), row);
-        if variable > orders && self.table.at(row, self.table.width()) >= FAR {
+        if variable > orders && self.table.at(row, self.table.width()) >= far {
             self.table.remove_row(row);
             self.mark_gone(variable, orders);
         }
     }
 
     fn solve_once(&mut self, book: &Book) -> Result<(), AllocError> {
-        self.table.dual(0, MASTER_TURNS)?;
+        let _ = self.table.dual(0, MASTER_TURNS)?;
         self.read_fills(book);
         self.drop_far(book);
         Ok(())

@@ -1,15 +1,18 @@
 //! Programs of nodes: the least liability that closes a leaf, or a ray on which none does.
 
 use crate::master::SMALL;
-use crate::rows::{add_entry, entry};
-use crate::steps::Turns;
-use crate::table::Table;
+use crate::rows::{add_entry, add_times, entry};
+use crate::steps::{Stuck, Turns};
+use crate::table::{Table, variable_at};
 use crate::{Book, NearLeg};
 use std::alloc::{AllocError, Global};
 
+// What a slope may be above 0 for nothing, so that whole numbers can mend it: 2^-42.
+const ROW_SMALL: f64 = 2.2737367544323206e-13;
+
 // The turns of a node's program.
-pub(crate) const NODE_TURNS: Turns = Turns {
-    small: SMALL,
+const NODE_TURNS: Turns = Turns {
+    small: ROW_SMALL,
     pivot: 5.960464477539063e-8,
     cap: 400,
 };
@@ -79,8 +82,8 @@ pub fn sign_at(signs: &[i8], leg: usize) -> i8 {
     }
 }
 
-/// The scaled fill of a leg.
-pub fn fill_of(leg: &NearLeg, fills: &[f64]) -> f64 {
+// The scaled fill of a leg.
+fn fill_of(leg: &NearLeg, fills: &[f64]) -> f64 {
     entry(fills, leg.order) * leg.size
 }
 
@@ -93,8 +96,8 @@ fn add_long(sums: &mut [f64; 9], form: &[f64; 9], fill: f64, sign: i8) {
     }
 }
 
-/// The sums of the entries before multipliers.
-pub fn long_sums(book: &Book, fills: &[f64], signs: &[i8]) -> [f64; 9] {
+// The sums of the entries before multipliers.
+fn long_sums(book: &Book, fills: &[f64], signs: &[i8]) -> [f64; 9] {
     let mut sums = [0.0; 9];
     for (i, leg) in book.legs.iter().enumerate() {
         let sign = sign_at(signs, i);
@@ -133,11 +136,7 @@ fn column_of(i: usize, leg: &NearLeg, question: Question) -> Option<Column> {
     })
 }
 
-pub(crate) fn columns_of(
-    alloc: Global,
-    book: &Book,
-    question: Question,
-) -> Result<Vec<Column>, AllocError> {
+fn columns_of(alloc: Global, book: &Book, question: Question) -> Result<Vec<Column>, AllocError> {
     let mut columns = Vec::new(alloc);
     for (i, leg) in book.legs.iter().enumerate() {
         if let Some(column) = column_of(i, leg, question) {
@@ -147,32 +146,31 @@ pub(crate) fn columns_of(
     Ok(columns)
 }
 
-// A table whose row 0 asks for the least slack of all other rows. Row 1 is to be set.
-fn slack_table(alloc: Global, columns: &[Column]) -> Result<Table, AllocError> {
-    let mut table = Table::new(alloc, columns.len().saturating_add(1), 2)?;
+// A table of the columns, whose row 0 is to be set.
+fn first_table(alloc: Global, columns: &[Column]) -> Result<Table, AllocError> {
+    let mut table = Table::new(alloc, columns.len(), 1)?;
     for (j, column) in columns.iter().enumerate() {
         table.set_upper(j, column.bound);
     }
-    table.set(0, columns.len(), 1.0);
     Ok(table)
 }
 
-// Row 1 asks for the least first entry.
+// Row 0 asks for the least first entry.
 fn ask_least_entry(table: &mut Table, columns: &[Column], sum: f64) {
     for (j, column) in columns.iter().enumerate() {
-        table.set(1, j, column.factor * column.form[0]);
+        table.set(0, j, column.factor * column.form[0]);
     }
-    table.set(1, table.width(), -sum);
+    table.set(0, table.width(), -sum);
 }
 
-// Row 1 asks for the least cost.
+// Row 0 asks for the least cost.
 fn ask_least_cost(table: &mut Table, columns: &[Column], costs: &[f64]) {
     for (j, column) in columns.iter().enumerate() {
-        table.set(1, j, entry(costs, column.place));
+        table.set(0, j, entry(costs, column.place));
     }
 }
 
-// The row of an entry: its sum less the common slack is at most 0.
+// The row of an entry: its sum is at most 0.
 fn add_entry_row(
     table: &mut Table,
     columns: &[Column],
@@ -183,33 +181,17 @@ fn add_entry_row(
     for column in columns {
         row.push(column.factor * entry(&column.form, place))?;
     }
-    row.push(-1.0)?;
     row.push(-sum)?;
     let _ = table.add_row(row)?;
     Ok(())
 }
 
-// The row of the entry that is furthest above what it may be.
-fn worst_row(table: &Table) -> Option<usize> {
-    let side = table.width();
-    let mut worst = 0.0;
-    let mut place = None;
-    for (i, row) in table.rows().iter().enumerate() {
-        let right = entry(row, side);
-        if i >= 2 && right < worst {
-            worst = right;
-            place = Some(i);
-        }
-    }
-    place
-}
-
-// The prices of the slopes in an objective's row, behind a first entry.
-fn prices_in(table: &Table, objective: usize, first: f64) -> [f64; 9] {
+// The prices of the slopes in a row, behind a first entry.
+fn prices_in(table: &Table, row: usize, first: f64) -> [f64; 9] {
     let mut point = [0.0; 9];
     add_entry(&mut point, 0, first);
     for (j, variable) in table.other().iter().enumerate() {
-        add_price(&mut point, table.width(), *variable, table.at(objective, j));
+        add_price(&mut point, table.width(), *variable, table.at(row, j));
     }
     point
 }
@@ -225,45 +207,57 @@ fn add_price(point: &mut [f64; 9], slacks: usize, variable: usize, price: f64) {
     }
 }
 
-// The column with the largest entry of a row.
-fn largest_column(table: &Table, row: usize) -> Option<usize> {
-    let mut size = SMALL;
-    let mut column = None;
-    for j in 0..table.width() {
-        let number = table.at(row, j).abs();
-        if number > size {
-            size = number;
-            column = Some(j);
+// A ray, and what is owed along it at least.
+#[derive(Clone, Copy)]
+struct Ray {
+    point: [f64; 9],
+    owed: f64,
+}
+
+// The ray on which a row that does not fit says that something is owed.
+fn ray_of(table: &Table, stuck: Stuck) -> Ray {
+    let mut point = prices_in(table, stuck.row, 0.0);
+    let variable = variable_at(table.basic(), stuck.row);
+    add_price(&mut point, table.width(), variable, 1.0);
+    let mut sum = 0.0;
+    for price in point.iter() {
+        sum = sum + *price;
+    }
+    divided_ray(&point, sum, -stuck.most)
+}
+
+// The ray with prices whose sum is 1.
+fn divided_ray(point: &[f64; 9], sum: f64, owed: f64) -> Ray {
+    if sum <= 0.0 {
+        return Ray {
+            point: *point,
+            owed: 0.0,
+        };
+    }
+    let mut ray = [0.0; 9];
+    add_times(&mut ray, 1.0 / sum, point);
+    Ray {
+        point: ray,
+        owed: owed / sum,
+    }
+}
+
+// Brings the slopes to 0 or below at least cost. Answers a ray along which something is owed, where
+// they cannot be; what is owed within the tolerance is forgiven.
+fn settle(table: &mut Table) -> Result<Option<Ray>, AllocError> {
+    table.flip_where_below(0);
+    for _ in 0..table.rows().len() {
+        let Some(stuck) = table.dual(0, NODE_TURNS)? else {
+            break;
+        };
+        let ray = ray_of(table, stuck);
+        if ray.owed > RAY_TOLERANCE {
+            return Ok(Some(ray));
         }
+        let right = table.at(stuck.row, table.width()) - stuck.most;
+        table.set(stuck.row, table.width(), right);
     }
-    column
-}
-
-// Brings the common slack to 0; answers what is left of it.
-pub(crate) fn first_phase(table: &mut Table, slack: usize) -> Result<f64, AllocError> {
-    let Some(worst) = worst_row(table) else {
-        return Ok(0.0);
-    };
-    table.pivot(worst, slack)?;
-    table.primal(0, usize::MAX, NODE_TURNS)?;
-    let left = table.value_of(slack);
-    if left > RAY_TOLERANCE {
-        return Ok(left);
-    }
-    take_out(table, slack)?;
-    Ok(0.0)
-}
-
-// Makes the slack, which is 0, a variable that is not basic.
-fn take_out(table: &mut Table, slack: usize) -> Result<(), AllocError> {
-    let Some(row) = table.row_of(slack) else {
-        return Ok(());
-    };
-    let Some(column) = largest_column(table, row) else {
-        return Ok(());
-    };
-    table.set(row, table.width(), 0.0);
-    table.pivot(row, column)
+    Ok(None)
 }
 
 // The multipliers of the columns that are above 0.
@@ -294,7 +288,7 @@ fn add_slopes(
 }
 
 // The sums of a node before multipliers.
-pub(crate) fn entries_of(book: &Book, question: Question) -> EntrySums {
+fn entries_of(book: &Book, question: Question) -> EntrySums {
     EntrySums {
         sums: long_sums(book, question.fills, question.signs),
         underlyings: book.underlyings,
@@ -303,12 +297,8 @@ pub(crate) fn entries_of(book: &Book, question: Question) -> EntrySums {
 }
 
 // The node's table.
-pub(crate) fn table_of(
-    alloc: Global,
-    columns: &[Column],
-    entries: &EntrySums,
-) -> Result<Table, AllocError> {
-    let mut table = slack_table(alloc, columns)?;
+fn table_of(alloc: Global, columns: &[Column], entries: &EntrySums) -> Result<Table, AllocError> {
+    let mut table = first_table(alloc, columns)?;
     ask_least_entry(&mut table, columns, entries.sums[0]);
     add_slopes(&mut table, columns, entries)?;
     Ok(table)
@@ -322,36 +312,33 @@ fn closing_table(
     enough: f64,
     costs: &[f64],
 ) -> Result<Table, AllocError> {
-    let mut table = slack_table(alloc, columns)?;
+    let mut table = first_table(alloc, columns)?;
     ask_least_cost(&mut table, columns, costs);
     add_slopes(&mut table, columns, entries)?;
     add_entry_row(&mut table, columns, entries.sums[0] - enough, 0)?;
     Ok(table)
 }
 
-// Both phases of a node's program.
+// What a node's program comes to.
 fn found_in(table: &mut Table, columns: &[Column]) -> Result<Found, AllocError> {
-    let slack = columns.len();
-    let left = first_phase(table, slack)?;
-    if left > 0.0 {
+    if let Some(ray) = settle(table)? {
         return Ok(Found {
-            value: left,
-            point: prices_in(table, 0, 0.0),
+            value: ray.owed,
+            point: ray.point,
             multipliers: Vec::new(table.allocator()),
             work: table.work(),
         });
     }
-    table.primal(1, slack, NODE_TURNS)?;
     Ok(Found {
-        value: -table.at(1, table.width()),
-        point: prices_in(table, 1, 1.0),
+        value: -table.at(0, table.width()),
+        point: prices_in(table, 0, 1.0),
         multipliers: read_multipliers(table, columns)?,
         work: table.work(),
     })
 }
 
 /// The least first entry that multipliers of columns leave with no slope above 0, by at most 400
-/// turns in each of two phases. The error is want of memory.
+/// turns. The error is want of memory.
 pub fn solve_columns(
     alloc: Global,
     columns: &[Column],
@@ -361,29 +348,15 @@ pub fn solve_columns(
     found_in(&mut table, columns)
 }
 
-/// Solves the program of a node by at most 400 turns in each of its two phases. The error is want
-/// of memory.
+/// Solves the program of a node by at most 400 turns. The error is want of memory.
 pub fn solve_node(alloc: Global, book: &Book, question: Question) -> Result<Found, AllocError> {
     let columns = columns_of(alloc, book, question)?;
     solve_columns(alloc, &columns, &entries_of(book, question))
 }
 
-// Both phases of a closing program.
-fn closing_multipliers(
-    table: &mut Table,
-    columns: &[Column],
-) -> Result<Option<Vec<NearMultiplier>>, AllocError> {
-    let slack = columns.len();
-    if first_phase(table, slack)? > 0.0 {
-        return Ok(None);
-    }
-    table.primal(1, slack, NODE_TURNS)?;
-    Ok(Some(read_multipliers(table, columns)?))
-}
-
 /// The multipliers of least cost that leave no slope above 0 and the first entry at most at
-/// `enough`, each at the cost at its column's place for each 1 of it; None where none do. Two phases
-/// of at most 400 turns. The error is want of memory.
+/// `enough`, each at the cost at its column's place for each 1 of it; None where none do. At most
+/// 400 turns. The error is want of memory.
 pub fn close_columns(
     alloc: Global,
     columns: &[Column],
@@ -392,18 +365,8 @@ pub fn close_columns(
     costs: &[f64],
 ) -> Result<Option<Vec<NearMultiplier>>, AllocError> {
     let mut table = closing_table(alloc, columns, entries, enough, costs)?;
-    closing_multipliers(&mut table, columns)
-}
-
-/// The multipliers of least cost that close a node at this liability, each at its leg's cost for
-/// each 1 of it; None where none do. Two phases of at most 400 turns. The error is want of memory.
-pub fn solve_closing(
-    alloc: Global,
-    book: &Book,
-    question: Question,
-    enough: f64,
-    costs: &[f64],
-) -> Result<Option<Vec<NearMultiplier>>, AllocError> {
-    let columns = columns_of(alloc, book, question)?;
-    close_columns(alloc, &columns, &entries_of(book, question), enough, costs)
+    if settle(&mut table)?.is_some() {
+        return Ok(None);
+    }
+    Ok(Some(read_multipliers(&table, columns)?))
 }

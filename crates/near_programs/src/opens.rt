@@ -82,17 +82,6 @@ pub fn take_greatest(opens: &mut Vec<Open>) -> Option<Open> {
     }
 }
 
-/// Whether entries of both signs stand in a form.
-pub fn is_mixed(form: &[f64; 9]) -> bool {
-    let mut least = 0.0;
-    let mut most = 0.0;
-    for number in form {
-        least = number.min(least);
-        most = number.max(most);
-    }
-    least < 0.0 && most > 0.0
-}
-
 /// The place of the greatest number above 0.
 pub fn place_of_most(numbers: &[f64]) -> Option<usize> {
     let mut most = 0.0;

@@ -166,8 +166,3 @@ pub fn net_at(book: &Book, fills: &[f64], liability: f64, point: &[f64; 9]) -> f
     }
     total
 }
-
-/// What the option pays at a point.
-pub fn reach_from_zero(form: &[f64; 9], point: &[f64; 9]) -> f64 {
-    from_zero(reach(form, point))
-}

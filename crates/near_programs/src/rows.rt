@@ -61,6 +61,15 @@ pub fn plus_products(start: f64, left: &[f64], right: &[f64]) -> f64 {
     sum
 }
 
+/// A number and the squares of so many numbers of a row, added in order.
+pub(crate) fn plus_squares(start: f64, row: &[f64], count: usize) -> f64 {
+    let mut sum = start;
+    for number in row.iter().take(count) {
+        sum = sum + *number * *number;
+    }
+    sum
+}
+
 /// Adds a factor times another row to a row.
 pub fn add_times(row: &mut [f64], factor: f64, other: &[f64]) {
     for (number, more) in row.iter_mut().zip(other) {

@@ -3,9 +3,8 @@
 use crate::book::{Book, NearLeg};
 use crate::climbs::{Draws, Violated};
 use crate::master::Master;
-use crate::numbers::float_of;
 use crate::points::{NearState, bend, unit_ray};
-use crate::rounding::{WholeMeasure, measure_of, scaled_unit};
+use crate::rounding::{WholeMeasure, measure_of};
 use std::alloc::{AllocError, Global};
 
 // The most states that climbs add in a round.
@@ -93,14 +92,4 @@ pub fn closer_measure(
     } else {
         measure
     })
-}
-
-/// The scaled floats of whole fills.
-pub fn scaled_fills(alloc: Global, book: &Book, units: &[i128]) -> Result<Vec<f64>, AllocError> {
-    let unit = scaled_unit(book.scales);
-    let mut fills = Vec::new(alloc);
-    for fill in units {
-        fills.push(float_of(*fill) / unit)?;
-    }
-    Ok(fills)
 }

@@ -1,8 +1,10 @@
 //! The condensed table.
 
+use crate::entrants::{Entrant, list_entrants};
 use crate::rows::{
     add_entry, add_times, clear, copy_row, eliminate, entry, flip_entry, flip_row, scale, set_entry,
 };
+use crate::steps::Turns;
 use std::alloc::{AllocError, Global};
 
 /// The bound of a variable that has none.
@@ -22,6 +24,7 @@ pub struct Table {
     upper: Vec<f64>,
     flipped: Vec<bool>,
     pivot_row: Vec<f64>,
+    pub(crate) entrants: Vec<Entrant>,
     work: u64,
 }
 
@@ -38,6 +41,7 @@ impl Table {
             upper: vec![in alloc; UNBOUNDED; width]?,
             flipped: vec![in alloc; false; width]?,
             pivot_row: Vec::new(alloc),
+            entrants: Vec::new(alloc),
             work: 0,
             rows: zero_rows(alloc, objectives, width)?,
         })
@@ -58,15 +62,20 @@ impl Table {
         self.objectives
     }
 
-    /// How many entries its turns went over: what it cost so far, whatever the machine.
+    /// How many entries its turns went over, those that were looked at one by one four times: what it
+    /// cost so far, whatever the machine.
     pub fn work(&self) -> u64 {
         self.work
     }
 
-    // Counts a turn.
-    fn count_turn(&mut self) {
-        let entries = self.rows.len().saturating_mul(self.width) as u64;
-        self.work = self.work.saturating_add(entries);
+    // Counts entries that a turn went over.
+    fn count(&mut self, entries: usize) {
+        self.work = self.work.saturating_add(entries as u64);
+    }
+
+    // Counts entries that were looked at one by one, which costs about four times as much.
+    pub(crate) fn count_looks(&mut self, entries: usize) {
+        self.count(entries.saturating_mul(4));
     }
 
     /// The rows: entries by column, and the right side behind them.
@@ -101,10 +110,7 @@ impl Table {
 
     /// The bound of a variable.
     pub fn upper(&self, variable: usize) -> f64 {
-        match self.upper.get(variable) {
-            Some(bound) => *bound,
-            None => UNBOUNDED,
-        }
+        bound_at(&self.upper, variable)
     }
 
     /// Bounds a variable that is 0.
@@ -220,7 +226,8 @@ impl Table {
         }
         self.eliminate_others(row, column);
         self.exchange(row, column);
-        self.count_turn();
+        let entries = self.rows.len().saturating_mul(self.width);
+        self.count(entries);
         Ok(())
     }
 
@@ -266,7 +273,41 @@ impl Table {
             flip_entry(numbers, column, side, bound);
         }
         self.turn_flip(variable);
-        self.count_turn();
+        let entries = self.rows.len();
+        self.count_looks(entries);
+    }
+
+    /// Complements the variables of columns in which an objective is below 0.
+    pub fn flip_where_below(&mut self, objective: usize) {
+        for column in 0..self.width {
+            if self.at(objective, column) < 0.0 {
+                self.flip_other(column);
+            }
+        }
+    }
+
+    // Lists the columns that may enter for a row. Answers by how much they can raise its right side
+    // together.
+    pub(crate) fn list_entrants(
+        &mut self,
+        objective: usize,
+        row: usize,
+        turns: Turns,
+    ) -> Result<f64, AllocError> {
+        let Some(numbers) = self.rows.get(row) else {
+            return Ok(0.0);
+        };
+        let Some(costs) = self.rows.get(objective) else {
+            return Ok(0.0);
+        };
+        list_entrants(
+            &mut self.entrants,
+            numbers,
+            costs,
+            &self.other,
+            &self.upper,
+            turns,
+        )
     }
 
     /// Makes a column that of a variable which no row has.
@@ -353,6 +394,14 @@ fn first_numbers(alloc: Global, count: usize) -> Result<Vec<usize>, AllocError> 
         numbers.push(number)?;
     }
     Ok(numbers)
+}
+
+/// The bound of a variable in a list; past its end none.
+pub(crate) fn bound_at(upper: &[f64], variable: usize) -> f64 {
+    match upper.get(variable) {
+        Some(bound) => *bound,
+        None => UNBOUNDED,
+    }
 }
 
 /// The variable at a place of a list; past its end none.
