@@ -5,7 +5,8 @@ use Rattle.form.specs.declared.orders.Batch.{Batch}
 use Rattle.form.specs.declared.orders.Order.{Order}
 use Rattle.form.specs.Limits.{IsWithinLimits}
 use Rattle.proposal_check.specs.declared.covers.Proposal.{Proposal}
-use Rattle.proposals.specs.Judged.{IsJudgedBound}
+use Rattle.proposals.specs.Judged.{IsJudgedBound, ProposesNothing}
+use Rattle.match_proposals.specs.Least.{EarnsTheMatch}
 use Rattle.limits.specs.declared.TheConstants.{MAX_BYTES}
 use Rattle.proposal_text.specs.declared.submissions.Submission.{Submission}
 use Rattle.proposal_text.specs.declared.replies.ProposalReply.TheVariants.{Book}
@@ -31,10 +32,12 @@ abbrev pub proposing_text : ℕ → Submission → List ℕ
 proposing_text market submission = codes "propose," ++ (decimal market ++ (codes "," ++ submission_text submission))
 
 -- the text is such a line, with its line feed, of a proposal that is judged a bound for the orders
--- and within its ranges; the line is as short as an exchange takes it
+-- and within its ranges; it earns at least the match of each bundle by itself, or is of nothing, with
+-- the least cover; the line is as short as an exchange takes it
 pub record IsProposed (market : ℕ) (batch : Batch) (text : List ℕ) : Type 0 where
   pub proposal : Proposal
   pub judged : IsJudgedBound batch proposal
+  pub earned : EarnsTheMatch batch proposal ⊎ ProposesNothing batch proposal
   pub within : IsSubmissionWithin (submission_for batch proposal)
   pub is : text ≡ proposing_text market (submission_for batch proposal) ++ 10 ∷ []
   pub short : length text ≤ MAX_BYTES + 1

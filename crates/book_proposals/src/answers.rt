@@ -5,6 +5,7 @@ ghost use Rattle.form.specs.Limits.{IsWithinLimits};
 ghost use Rattle.limits.specs.declared.TheConstants.{MAX_BYTES};
 ghost use Rattle.reply_print.specs.Within.{IsBatchWithin};
 ghost use Rattle.proposals.specs.Judged.{IsJudgedBound};
+ghost use Rattle.match_proposals.specs.Least.{EarnsTheMatch};
 ghost use Rattle.book_proposals.specs.Answers.{IsAnswerTo, IsProposed, proposing_text, submission_for};
 
 use crate::books::book_of;
@@ -22,7 +23,8 @@ use std::alloc::{AllocError, Global};
 /// What is written for a line without its line feed: where it is the print of a reply that tells
 /// the live orders of a market, the line `propose,MARKET,PROPOSAL` and a line feed, with a proposal
 /// for just these orders that is judged a bound, as short as an exchange takes it; and nothing for
-/// any other line. The only error is want of memory.
+/// any other line. It earns at least the match of each bundle, or is of nothing, with the least cover.
+/// The only error is want of memory.
 pub fn propose_for(alloc: Global, line: &[u8]) -> Result<Vec<u8>, AllocError>
     ensures answer { IfOk result (λ text. IsAnswerTo line.now text.items) }
 {
@@ -67,7 +69,8 @@ fn matched_line(alloc: Global, market: u32, batch: &Batch) -> Result<Option<Vec<
     written_line(alloc, market, batch, matched)
 }
 
-// The line of a proposal, where its numbers are within their ranges and it is short.
+// The line of a proposal that earns at least the match, where its numbers are within their ranges and
+// it is short.
 fn written_line(
     alloc: Global,
     market: u32,
@@ -77,6 +80,7 @@ fn written_line(
     requires within { IsWithinLimits batch.now }
     requires ranges { IsBatchWithin batch.now }
     requires judged { IsJudgedBound batch.now proposal }
+    requires earned { EarnsTheMatch batch.now proposal }
     ensures { IfOk result (λ line. IfSome line (λ text. IsProposed market batch.now text.items)) }
 {
     if !is_written(batch, &proposal) {

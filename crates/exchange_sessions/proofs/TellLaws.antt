@@ -31,6 +31,7 @@ use Rattle.served_members.specs.Members.{ServedMembers, empty_members, member_bo
 use Rattle.served_members.specs.Promises.{bodies_in}
 use Rattle.served_members.proofs.Freed.{allowed_bodies_tell}
 use Rattle.served_members.proofs.LinesKept.{outputs_tell_served}
+use Rattle.served_members.proofs.Lowering.{free_lines_lower_nothing}
 use Rattle.served_members.proofs.Once.{members_tell_once}
 use Rattle.served_members.proofs.Paying.{members_can_pay}
 use Rattle.served_members.proofs.Ruled.{members_are_ruled}
@@ -104,6 +105,7 @@ ruled messages are =
       state = same;
       allowed = λ filler fault is. members_are_served.allowed filler fault is 1 empty_members bodies;
       told = allowed_bodies_tell bodies (subst (All IsBody) (sym (same_bodies messages)) are);
+      lowers = free_lines_lower_nothing;
       moves = members_move_by_rule.moves 1 empty_members bodies empty_is_sound;
       throughout = members_are_ruled bodies;
       secured = subst AreSecured (sym same) (members_are_secured 1 empty_members bodies none_owned);

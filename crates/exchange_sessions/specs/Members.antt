@@ -11,7 +11,7 @@ use Rattle.secured_lines.specs.Output.{secured_said}
 use Rattle.secured_lines.specs.SecuredState.{empty_secured, exchange_in, with_opened}
 use Rattle.served_members.specs.Laws.{ArePaying, AreSecured, members_after}
 use Rattle.served_members.specs.Members.{ServedMembers, empty_members, member_body, member_question, members_output}
-use Rattle.served_members.specs.Promises.{AllowedTell}
+use Rattle.served_members.specs.Promises.{AllowedTell, FreeLinesLowerNothing}
 use Rattle.served_members.specs.Ruled.{AreRuledThroughout}
 use Rattle.session_gate.specs.Gate.{Message}
 use Rattle.session_laws.specs.Laws.{ToldOnce, state_after}
@@ -31,16 +31,19 @@ abbrev pub all_said : List Message → List SaidBody
 all_said messages = map said_by messages
 
 -- Bodies, one after another, leave this state. Those that the rule lets through are answered as
--- where there is no rule, with one that is no line in place of each other; and so, as the lines of one
--- input, they keep what is promised where proposals are taken. What was said moved the exchange by the rule: what an account has changes by its owner's lines alone, and by the operator's
--- deposits, clears and settlements. Wherever the bodies are parted, an account keeps its owner, which
--- is the session that opened it, each session is within its part, others are told nothing of an
--- account, and a closed market stands still. And each account of a session that is not the operator's
--- is secured, and the balance of none that is is below its true need.
+-- where there is no rule, with one that is no line in place of each other; and so, as the lines of
+-- one input, they keep what is promised where proposals are taken, and no proposal lowers what a
+-- clear tells. What was said moved the exchange by the rule: what an account has changes by its
+-- owner's lines alone, and by the operator's deposits, clears and settlements. Wherever the bodies
+-- are parted, an account keeps its owner, which is the session that opened it, each session is
+-- within its part, others are told nothing of an account, and a closed market stands still. And each
+-- account of a session that is not the operator's is secured, and the balance of none that is is
+-- below its true need.
 pub record AreRuled (bodies : List SaidBody) (after : ServedMembers) : Type 0 where
   pub state : after ≡ members_after bodies
   pub allowed : (filler : List ℕ) (fault : Fault) → said_in SERVED filler ≡ Err fault → AreAsServed exchange_in secured_said with_opened filler 1 empty_members empty_secured bodies
   pub told : AllowedTell bodies
+  pub lowers : FreeLinesLowerNothing
   pub moves : AreSaidByRule exchange_in secured_said with_opened 1 empty_members bodies
   pub throughout : AreRuledThroughout bodies
   pub secured : AreSecured after

@@ -1,5 +1,5 @@
 -- What is promised of owners, and of what an account has.
-use Rattle.std.specs.Prelude.{ℕ, ◌≡◌, ◌≤◌, ⊤, ◌⊎◌, Bool, true, false, List, [], ◌∷◌, ◌++◌, map, Option, Some, None}
+use Rattle.std.specs.Prelude.{ℕ, ◌+◌, ◌≡◌, ◌≤◌, ⊤, ◌⊎◌, Bool, true, false, List, [], ◌∷◌, ◌++◌, map, Option, Some, None}
 use Rattle.std.specs.List.{All, Contains}
 use Rattle.std.specs.Option.{option_map_or}
 use Rattle.cash_ledger.specs.declared.entry.Cause.{Cause}
@@ -16,12 +16,17 @@ use Rattle.command_text.specs.Within.{IsWithin}
 use Rattle.frac.specs.declared.frac128.Frac128.{Frac128}
 use Rattle.frac.specs.Value.{fraction_of}
 use Rattle.lists.specs.Refusals.{first_of}
+use Rattle.order_book.specs.declared.new_order.NewOrder.{NewOrder}
+use Rattle.order_book.specs.Book.{order_of, with_number}
 use Rattle.order_book.specs.Markets.{Markets, MarketState}
 use Rattle.order_book.specs.Refusals.{batch_refusals}
 use Rattle.exchange_core.specs.ExchangeState.{ExchangeState, all_live}
 use Rattle.exchange_core.specs.Kept.{IsKept}
+use Rattle.exchange_core.specs.Orders.{order_of as new_order_of}
 use Rattle.exchange_core.specs.Refusals.{by_book}
 use Rattle.exchange_core.specs.Step.{batch_in, cleared_with, step}
+use Rattle.settlement.specs.declared.position.Position.{Position}
+use Rattle.settlement.specs.Positions.{held_in}
 use Rattle.members.specs.Members.{MembersState, Owned, after_reply, counted_of, is_allowed, may_ask, own_live, owner_of, owns}
 use Rattle.members.specs.Refusals.{rule_refusals}
 use Rattle.members.specs.Rule.{is_operator}
@@ -136,15 +141,44 @@ IsOperator session = is_operator session ≡ true
 abbrev pub IsOwner : Owned → ℕ → ℕ → Type 0
 IsOwner owners session account = owner_of owners account ≡ Some session
 
--- deposits, premiums and payoffs are the operator's doing, and a withdrawal its owner's
-abbrev pub MayCause : Owned → ℕ → ℕ → Cause → Type 0
-MayCause owners session account cause.Deposit = IsOperator session
-MayCause owners session account cause.Withdraw = IsOwner owners session account
-MayCause owners session account (cause.Premium batch) = IsOperator session
-MayCause owners session account (cause.Payoff batch) = IsOperator session
+-- the command clears a market in which an order of the account is live
+abbrev pub IsCleared : Command → ExchangeState → ℕ → Type 0
+IsCleared (Clear market budget) before account =
+    (order : Order) × Contains (batch_in before market).orders order × (order.account ≡ account)
+IsCleared command before account = ⊥
 
-abbrev pub IsEntryBy : Owned → ℕ → Entry → Type 0
-IsEntryBy owners session entry = MayCause owners session entry.account entry.cause
+-- the command settles a market in which the account has a position
+abbrev pub IsSettled : Command → ExchangeState → ℕ → Type 0
+IsSettled (Settle market count prices) before account =
+    (position : Position) × Contains (held_in market before.positions) position × (position.account ≡ account)
+IsSettled command before account = ⊥
+
+-- a deposit is the operator's doing, a withdrawal the owner's, each by its line; premiums and payoffs
+-- are the operator's, by a clear or a settlement of what the account has, or the house's
+abbrev pub MayCause : Owned → ℕ → Command → ExchangeState → ℕ → Cause → Type 0
+MayCause owners session command before account cause.Deposit =
+    IsOperator session × ((amount : ℕ) × (command ≡ Deposit account amount))
+MayCause owners session command before account cause.Withdraw =
+    IsOwner owners session account × ((amount : ℕ) × (command ≡ Withdraw account amount))
+MayCause owners session command before account (cause.Premium batch) =
+    IsOperator session × ((account ≡ 0) ⊎ IsCleared command before account)
+MayCause owners session command before account (cause.Payoff batch) =
+    IsOperator session × ((account ≡ 0) ⊎ IsSettled command before account)
+
+abbrev pub IsEntryBy : Owned → ℕ → Command → ExchangeState → Entry → Type 0
+IsEntryBy owners session command before entry = MayCause owners session command before entry.account entry.cause
+
+-- the session owns the account of the order, and the command places it
+abbrev pub IsPlacedBy : Owned → ℕ → Command → ExchangeState → Order → Type 0
+IsPlacedBy owners session command before order =
+    IsOwner owners session order.account
+    × ((new : NewOrder) × (new_order_of command ≡ Some new) × (order ≡ with_number (before.book.accepted + 1) new))
+
+-- or the command cancels it
+abbrev pub IsCancelledBy : Owned → ℕ → Command → ExchangeState → Order → Type 0
+IsCancelledBy owners session command before order =
+    IsOwner owners session order.account
+    × ((number : ℕ) × (command ≡ Cancel order.account number) × (order_of before.book number ≡ Some order))
 
 -- a clear or a settlement, by which live orders lapse
 abbrev pub is_ending : Command → Bool
@@ -166,20 +200,23 @@ IsEnding session command = IsOperator session × (is_ending command ≡ true)
 abbrev pub listing_of : Markets → List (ℕ × (ℕ × Bool))
 listing_of markets = map (λ (m : ℕ × MarketState). (m.0, (m.1.underlyings, m.1.settled))) markets
 
--- the entries that are new are such as the session may cause
-pub record AddsEntries (owners : Owned) (session : ℕ) (before after : List Entry) : Type 0 where
+-- the entries that are new are such as the session may cause by the command
+pub record AddsEntries (owners : Owned) (session : ℕ) (command : Command) (before : ExchangeState) (after : List Entry) : Type 0 where
   pub added : List Entry
-  pub joined : after ≡ before ++ added
-  pub each : All (IsEntryBy owners session) added
+  pub joined : after ≡ before.entries ++ added
+  pub each : All (IsEntryBy owners session command before) added
 
 -- what a session said changed this: from before to after, where these were the owners
 pub record IsByRule (owners : Owned) (session : ℕ) (command : Command) (before after : ExchangeState) : Type 0 where
-  pub entries : AddsEntries owners session before.entries after.entries
-  -- a live order was live before, or is of an account of the session
-  pub placed : All (λ (order : Order). Contains (all_live before) order ⊎ IsOwner owners session order.account) (all_live after)
-  -- an order that was live is live, or is of an account of the session, or the operator cleared or
-  -- settled
-  pub gone : All (λ (order : Order). Contains (all_live after) order ⊎ (IsOwner owners session order.account ⊎ IsEnding session command)) (all_live before)
+  pub entries : AddsEntries owners session command before after.entries
+  -- a live order was live before, or is of an account of the session, whose line places it
+  pub placed : All (λ (order : Order).
+      Contains (all_live before) order ⊎ IsPlacedBy owners session command before order) (all_live after)
+  -- an order that was live is live, or is of an account of the session, whose line cancels it, or
+  -- the operator cleared or settled
+  pub gone : All (λ (order : Order).
+      Contains (all_live after) order ⊎ (IsCancelledBy owners session command before order ⊎ IsEnding session command))
+      (all_live before)
   -- markets are listed and settled, and positions come and go, by the operator alone
   pub markets : (listing_of after.book.markets ≡ listing_of before.book.markets) ⊎ IsOperator session
   pub positions : (after.positions ≡ before.positions) ⊎ IsOperator session

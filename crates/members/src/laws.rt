@@ -33,8 +33,9 @@ pub fn others_are_told_nothing()
 {}
 
 /// Whatever is said, an order of an account is placed or cancelled, and its balance lowered by a
-/// withdrawal, only by its owner's session; deposits, markets, clears and settlements come from the
-/// operator's sessions alone.
+/// withdrawal, only by its owner's session, by the line that names it; deposits, markets, clears and
+/// settlements come from the operator's sessions alone, and these move what accounts have that have
+/// an order or a position there.
 pub fn moves_are_by_rule()
     ensures { MovesAreByRule }
 {}

@@ -30,7 +30,7 @@ module _ (state : ExchangeState) (account : ℕ) (kept : IsKept state) where
       }
 
   -- and in all of them
-  all_traded : (numbers : List ℕ) → All IsTraded (portfolios (filter has_some (map (numbered_in state account) numbers)))
+  pub all_traded : (numbers : List ℕ) → All IsTraded (portfolios (filter has_some (map (numbered_in state account) numbers)))
   all_traded [] = All-nil IsTraded
   all_traded (n ∷ numbers) = by (has_some (numbered_in state account n)) (all_traded numbers)
     where

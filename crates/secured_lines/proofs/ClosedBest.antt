@@ -24,17 +24,19 @@ use Rattle.order_book.specs.Refusals.{is_market, is_settled}
 use Rattle.order_book.proofs.BookKept.{market_kept}
 use Rattle.proposal_lines.specs.Answers.{AreToldFor, IsToldFor, ProposalAnswer, beside, bounded, replied, taken}
 use Rattle.proposal_lines.specs.Laws.{IsSound}
+use Rattle.proposal_lines.specs.ProposingState.{ProposingState}
 use Rattle.proposal_lines.specs.UsesBest.{IfTaken, IsUsedBy, ToldClear, UsesBest, clear_in, clears_or}
 use Rattle.proposal_lines.proofs.UsingBest.{uses_the_best}
 use Rattle.serve_lines.specs.Output.{serving_said}
 use Rattle.serve_lines.specs.Phased.{exchange_of}
+use Rattle.serve_lines.specs.ServingState.{ServingState}
 use Rattle.serve_lines.proofs.Batches as serving
-use Rattle.secured_lines.specs.ClosedBest.{BestOfClosedIsUsed, ClosedBatchesStay, IsElsewhere, IsUsedNext, UsesBestOfClosed}
+use Rattle.secured_lines.specs.ClosedBest.{BestOfClosedIsUsed, ClosedBatchesStay, IsElsewhere, IsUsedNext, UsesBestOfClosed, UsesTheBestOfClosed}
 use Rattle.secured_lines.specs.Output.{handed_on, secured_line, secured_said}
 use Rattle.secured_lines.specs.SecuredState.{SecuredState, exchange_in}
 use Rattle.secured_lines.proofs.LineKinds.{by_answer, by_kind}
 use Rattle.secured_lines.proofs.StandingStill.{closed_markets_stand_still}
-use Rattle.secured_lines.proofs.Telling.{proposing_of, secured_sound}
+use Rattle.secured_lines.proofs.Telling.{secured_sound}
 
 -- ---- a market that is there has underlyings
 abbrev batch_or_none : Option MarketState → Batch
@@ -57,7 +59,7 @@ still_there market state next sound there same =
 
 -- ---- one line
 module _ (market : ℕ) (state : SecuredState) (line : InputLine) (sound : IsSound state.serving.proposing) (shut : is_closed state.serving.closed market ≡ true)
-    (there : is_market (exchange_in state).book market ≡ true) (elsewhere : IsElsewhere market state line) where
+    (there : is_market (exchange_in state).book market ≡ true) (elsewhere : IsElsewhere market state.serving line) where
   abbrev IsSame : List ℕ × SecuredState → Type 0
   IsSame now = batch_in (exchange_in now.1) market ≡ batch_in (exchange_in state) market
 
@@ -106,51 +108,88 @@ clears_so : (surplus bound : Fraction) (told : Option ToldClear) (Then Later : T
 clears_so surplus bound None Then Later so used = so used
 clears_so surplus bound (Some told) Then Later so used = used
 
-used_next : (market : ℕ) (surplus bound : Fraction) (lines : List InputLine) (answers : List ProposalAnswer) (state : SecuredState) → IsSound state.serving.proposing
-    → is_closed state.serving.closed market ≡ true → is_market (exchange_in state).book market ≡ true
-    → IsUsedBy proposing_of secured_line market surplus bound state lines answers → IsUsedNext market surplus bound state lines answers
-used_next market surplus bound [] answers state sound shut there used = tt
-used_next market surplus bound (line ∷ lines) [] state sound shut there used = tt
-used_next market surplus bound (line ∷ lines) (answer ∷ answers) state sound shut there used =
-    let after = (secured_line line.number state line.bytes).1 in
-    clears_so surplus bound (clear_in market answer)
-    (batch_in (exchange_in after) market ≡ batch_in (exchange_in state) market → IsUsedBy proposing_of secured_line market surplus bound after lines answers)
-    (IsElsewhere market state line → IsUsedNext market surplus bound after lines answers)
-    (λ later elsewhere.
-    used_next market surplus bound lines answers after (secured_sound line state sound) (line_shut market state line sound shut there elsewhere)
-    (line_there market state line sound shut there elsewhere) (later (line_same market state line sound shut there elsewhere)))
-    used
-
 -- the market of a proposal that is taken is there
 not_refused : (b : Bool) (others : Option Refusal) → (if not b then Some NoMarket else others) ≡ None → b ≡ true
 not_refused true others none = refl
 not_refused false others none = cc
 
-module _ (state : SecuredState) (line : InputLine) (lines : List InputLine) (answers : List ProposalAnswer) where
-  abbrev after : SecuredState
-  after = (secured_line line.number state line.bytes).1
+-- ---- what is left
+module _ {S : Type 0} (serving : S → ServingState) where
+  -- of a market that is closed and there: it still is, with its batch
+  pub record IsLeft (market : ℕ) (before after : S) : Type 0 where
+    pub same : batch_in (exchange_of (serving after)) market ≡ batch_in (exchange_of (serving before)) market
+    pub shut : is_closed (serving after).closed market ≡ true
+    pub there : is_market (exchange_of (serving after)).book market ≡ true
 
-  taken_used : IsSound after.serving.proposing → (answer : ProposalAnswer) → IsToldFor state.serving.proposing line answer after.serving.proposing
-      → IfTaken (λ t. IsUsedBy proposing_of secured_line t.proposed.market (fraction_of t.proposed.submission.proposal.claim.surplus) (fraction_of t.bound) after lines answers) answer
-      → IfTaken (λ t. is_closed after.serving.closed t.proposed.market ≡ true → IsUsedNext t.proposed.market (fraction_of t.proposed.submission.proposal.claim.surplus) (fraction_of t.bound) after lines answers) answer
-  taken_used sound (replied answer) is used = tt
-  taken_used sound (bounded answer) is used = tt
-  taken_used sound (beside number text) is used = tt
-  taken_used sound (taken answer) is used =
-      let book = (exchange_in state).book in
-      let market = answer.proposed.market in
-      let there = not_refused (is_market book market) (if is_settled book market then Some Settled else None) is.accepted in
-      λ shut.
-      used_next market (fraction_of answer.proposed.submission.proposal.claim.surplus) (fraction_of answer.bound) lines answers after sound shut
-      (subst (λ (e : ExchangeState). is_market e.book market ≡ true) (sym is.exchange) there) used
+-- ---- a way of answering by whose lines a closed market stays
+module _ {S : Type 0} (serving : S → ServingState) (step : ℕ → S → List ℕ → List ℕ × S) where
+  abbrev pub LinesLeave : Type 0
+  LinesLeave =
+      (market : ℕ) (state : S) (line : InputLine) → IsSound (serving state).proposing → is_closed (serving state).closed market ≡ true
+      → is_market (exchange_of (serving state)).book market ≡ true → IsElsewhere market (serving state) line
+      → IsLeft serving market state (step line.number state line.bytes).1
 
-all_used : (lines : List InputLine) (answers : List ProposalAnswer) (state : SecuredState) → IsSound state.serving.proposing → AreToldFor proposing_of secured_line state lines answers
-    → UsesBest proposing_of secured_line state lines answers → UsesBestOfClosed state lines answers
-all_used [] answers state sound are used = tt
-all_used (line ∷ lines) [] state sound are used = tt
-all_used (line ∷ lines) (answer ∷ answers) state sound are used =
-    let sound_then = secured_sound line state sound in
-    (taken_used state line lines answers sound_then answer are.0 used.0, all_used lines answers (secured_line line.number state line.bytes).1 sound_then are.3 used.1)
+  abbrev pub LinesSound : Type 0
+  LinesSound = (line : InputLine) (state : S) → IsSound (serving state).proposing → IsSound (serving (step line.number state line.bytes).1).proposing
+
+  abbrev proposing : S → ProposingState
+  proposing state = (serving state).proposing
+
+  module _ (leave : LinesLeave) (sounds : LinesSound) where
+    used_next : (market : ℕ) (surplus bound : Fraction) (lines : List InputLine) (answers : List ProposalAnswer) (state : S) → IsSound (proposing state)
+        → is_closed (serving state).closed market ≡ true → is_market (exchange_of (serving state)).book market ≡ true
+        → IsUsedBy proposing step market surplus bound state lines answers → IsUsedNext serving step market surplus bound state lines answers
+    used_next market surplus bound [] answers state sound shut there used = tt
+    used_next market surplus bound (line ∷ lines) [] state sound shut there used = tt
+    used_next market surplus bound (line ∷ lines) (answer ∷ answers) state sound shut there used =
+        let after = (step line.number state line.bytes).1 in
+        clears_so surplus bound (clear_in market answer)
+        (batch_in (proposing after).exchange market ≡ batch_in (proposing state).exchange market → IsUsedBy proposing step market surplus bound after lines answers)
+        (IsElsewhere market (serving state) line → IsUsedNext serving step market surplus bound after lines answers)
+        (λ later elsewhere.
+        let left = leave market state line sound shut there elsewhere in
+        used_next market surplus bound lines answers after (sounds line state sound) left.shut left.there (later left.same))
+        used
+
+    module _ (state : S) (line : InputLine) (lines : List InputLine) (answers : List ProposalAnswer) where
+      abbrev after : S
+      after = (step line.number state line.bytes).1
+
+      taken_used : IsSound (proposing after) → (answer : ProposalAnswer) → IsToldFor (proposing state) line answer (proposing after)
+          → IfTaken (λ t. IsUsedBy proposing step t.proposed.market (fraction_of t.proposed.submission.proposal.claim.surplus) (fraction_of t.bound) after lines answers) answer
+          → IfTaken (λ t. is_closed (serving after).closed t.proposed.market ≡ true → IsUsedNext serving step t.proposed.market (fraction_of t.proposed.submission.proposal.claim.surplus) (fraction_of t.bound) after lines answers) answer
+      taken_used sound (replied answer) is used = tt
+      taken_used sound (bounded answer) is used = tt
+      taken_used sound (beside number text) is used = tt
+      taken_used sound (taken answer) is used =
+          let book = (proposing state).exchange.book in
+          let market = answer.proposed.market in
+          let there = not_refused (is_market book market) (if is_settled book market then Some Settled else None) is.accepted in
+          λ shut.
+          used_next market (fraction_of answer.proposed.submission.proposal.claim.surplus) (fraction_of answer.bound) lines answers after sound shut
+          (subst (λ (e : ExchangeState). is_market e.book market ≡ true) (sym is.exchange) there) used
+
+    all_used : (lines : List InputLine) (answers : List ProposalAnswer) (state : S) → IsSound (proposing state) → AreToldFor proposing step state lines answers
+        → UsesBest proposing step state lines answers → UsesBestOfClosed serving step state lines answers
+    all_used [] answers state sound are used = tt
+    all_used (line ∷ lines) [] state sound are used = tt
+    all_used (line ∷ lines) (answer ∷ answers) state sound are used =
+        let sound_then = sounds line state sound in
+        (taken_used state line lines answers sound_then answer are.0 used.0, all_used lines answers (step line.number state line.bytes).1 sound_then are.3 used.1)
+
+    pub uses_the_best_of_closed : UsesTheBestOfClosed serving step
+    uses_the_best_of_closed state lines answers sound are = all_used lines answers state sound are (uses_the_best proposing step state lines answers sound are)
+
+-- where accounts may be secured
+abbrev serving_of_secured : SecuredState → ServingState
+serving_of_secured state = state.serving
+
+pub lines_leave : LinesLeave serving_of_secured secured_line
+lines_leave market state line sound shut there elsewhere = record {
+  same = line_same market state line sound shut there elsewhere;
+  shut = line_shut market state line sound shut there elsewhere;
+  there = line_there market state line sound shut there elsewhere;
+}
 
 pub best_of_closed_is_used : BestOfClosedIsUsed
-best_of_closed_is_used state lines answers sound are = all_used lines answers state sound are (uses_the_best proposing_of secured_line state lines answers sound are)
+best_of_closed_is_used = uses_the_best_of_closed serving_of_secured secured_line lines_leave secured_sound

@@ -1,8 +1,11 @@
 pub mod ClosedBest
 pub mod Ends
 pub mod LineKinds
+pub mod Lowering
+mod LoweringServed
 pub mod Money
 pub mod Moves
+pub mod Needs
 pub mod Outputs
 mod Prices
 pub mod Secured

@@ -15,7 +15,7 @@ use Rattle.secured_lines.proofs.Telling.{secured_sound}
 abbrev Counted : Guarded → Type 0
 Counted state = IsAccountedFor state.exchange
 
-line_counted : (state : SecuredState) (line : InputLine) → IsSound state.serving.proposing → Counted (guarded_in state) → Counted (guarded_in (secured_line line.number state line.bytes).1)
+pub line_counted : (state : SecuredState) (line : InputLine) → IsSound state.serving.proposing → Counted (guarded_in state) → Counted (guarded_in (secured_line line.number state line.bytes).1)
 line_counted state line sound all =
     let after = (secured_line line.number state line.bytes).1 in
     ⊎_elim (λ (same : guarded_in after ≡ guarded_in state). subst Counted (sym same) all)

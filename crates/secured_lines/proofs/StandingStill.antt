@@ -26,7 +26,7 @@ use Rattle.secured_lines.proofs.LineKinds.{by_answer, by_kind}
 use Rattle.secured_lines.proofs.Telling.{secured_sound}
 
 module _ (market : ℕ) (state : SecuredState) (line : InputLine) (sound : IsSound state.serving.proposing) (shut : is_closed state.serving.closed market ≡ true)
-    (elsewhere : IsElsewhere market state line) where
+    (elsewhere : IsElsewhere market state.serving line) where
   abbrev Stands : List ℕ × SecuredState → Type 0
   Stands now = StandsStill market (phased_of state.serving) (phased_of now.1.serving)
 

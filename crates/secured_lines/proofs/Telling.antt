@@ -34,6 +34,7 @@ use Rattle.secured_accounts.specs.declared.refusal.SecuringRefusal.TheVariants.{
 use Rattle.serve_lines.specs.Output.{serving_said}
 use Rattle.serve_lines.specs.ServingState.{ServingState}
 use Rattle.serve_lines.proofs.Telling.{serving_told}
+use Rattle.secured_lines.specs.Laws.{state_by_lines}
 use Rattle.secured_lines.specs.Output.{command_line, handed_on, need_reply, secure_reply, secured_line, secured_output, secured_said, withdrawn, written_reply}
 use Rattle.secured_lines.specs.Replies.{need_answered, refused_by, secure_answered, uncovered_reply}
 use Rattle.secured_lines.specs.SecuredState.{SecuredState, empty_secured, exchange_in}
@@ -139,6 +140,11 @@ module _ (line : InputLine) (state : SecuredState) (sound : IsSound state.servin
 
 pub secured_told : (line : InputLine) (state : SecuredState) → IsSound state.serving.proposing → TellsLine proposing_of secured_line line state
 secured_told line state sound = let now = said_told line state sound (said_in SERVED line.bytes) refl in record { line_is = now.line_is; asked_is = now.asked_is }
+
+-- the state after lines is
+pub lines_sound : (state : SecuredState) (lines : List InputLine) → IsSound state.serving.proposing → IsSound (state_by_lines state lines).serving.proposing
+lines_sound state [] sound = sound
+lines_sound state (line ∷ lines) sound = lines_sound (secured_line line.number state line.bytes).1 lines (secured_sound line state sound)
 
 -- all lines
 pub lines_are_told : (input : List ℕ) → TellsBy proposing_of secured_line empty_secured input (secured_output input)

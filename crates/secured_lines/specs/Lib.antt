@@ -5,3 +5,4 @@ pub mod Laws
 pub mod Promises
 pub mod Asked
 pub mod ClosedBest
+pub mod Needs

@@ -7,6 +7,7 @@ use Rattle.command_text.specs.declared.requests.Request.TheVariants as asks
 use Rattle.command_text.specs.declared.words.TheConstants.{SERVED}
 use Rattle.command_text.specs.Said.{said_in}
 use Rattle.exchange_lines.specs.LineSteps.{InputLine, input_lines}
+use Rattle.proposal_lines.specs.LaterClears.{LowersNothing}
 use Rattle.proposal_lines.specs.Laws.{IsSound}
 use Rattle.proposal_lines.specs.Promises.{TellsBy}
 use Rattle.secured_accounts.specs.Laws.{AreSafe}
@@ -17,18 +18,21 @@ use Rattle.serve_lines.specs.ServingState.{ServingState}
 pub use Rattle.secured_lines.specs.ClosedBest.{AreMeanwhile}
 use Rattle.secured_lines.specs.ClosedBest.{UsesBestOfClosed}
 use Rattle.secured_lines.specs.Laws.{guarded_in, state_by_lines}
+use Rattle.secured_lines.specs.Needs.{NeedsAreEnough}
 use Rattle.secured_lines.specs.Output.{secured_line, secured_output}
-use Rattle.secured_lines.specs.SecuredState.{SecuredState, empty_secured, exchange_in, secured_of}
+use Rattle.secured_lines.specs.SecuredState.{SecuredState, empty_secured, exchange_in, secured_of, with_proposing}
 
 -- they keep what is promised of an exchange that takes proposals, and after each line the balance of
 -- each secured account is at or above its true need, and all balances sum to deposits less
--- withdrawals. The next clear of a closed market is as good as each proposal that was taken since it
--- was closed
+-- withdrawals. What an account is told to need is at least what it truly does. The next clear of a closed market is as good as each proposal that was taken since it
+-- was closed, and while the live orders of a market stay no proposal lowers what a clear tells
 pub record TellSecured (input bytes : List ℕ) : Type 0 where
   pub told : TellsBy (λ (state : SecuredState). state.serving.proposing) secured_line empty_secured input bytes
   pub safe : (front back : List InputLine) → input_lines input ≡ front ++ back → AreSafe (guarded_in (state_by_lines empty_secured front))
   pub money : (front back : List InputLine) → input_lines input ≡ front ++ back → AddUp (exchange_in (state_by_lines empty_secured front))
-  pub closed : UsesBestOfClosed empty_secured (input_lines input) told.answers
+  pub needs : (front back : List InputLine) → input_lines input ≡ front ++ back → NeedsAreEnough (state_by_lines empty_secured front)
+  pub closed : UsesBestOfClosed (λ (state : SecuredState). state.serving) secured_line empty_secured (input_lines input) told.answers
+  pub lowers : LowersNothing (λ (state : SecuredState). state.serving.proposing) secured_line with_proposing
 
 abbrev pub OutputsTellSecured : Type 0
 OutputsTellSecured = (input : List ℕ) → TellSecured input (secured_output input)

@@ -2,9 +2,10 @@
 -- secured.
 use Rattle.std.specs.Prelude.{ℕ, List, []}
 use Rattle.exchange_core.specs.ExchangeState.{ExchangeState}
+use Rattle.proposal_lines.specs.ProposingState.{ProposingState}
 use Rattle.secured_accounts.specs.Secured.{with_secured}
 use Rattle.serve_lines.specs.Phased.{exchange_of}
-use Rattle.serve_lines.specs.ServingState.{ServingState, empty_serving}
+use Rattle.serve_lines.specs.ServingState.{ServingState, empty_serving, serving_of}
 
 pub record SecuredState : Type 0 where
   -- the exchange, what is kept of proposals, and the closed markets
@@ -24,3 +25,7 @@ exchange_in state = exchange_of state.serving
 -- an account that was just opened is secured
 abbrev pub with_opened : SecuredState → ℕ → SecuredState
 with_opened state account = secured_of state.serving (with_secured state.secured account)
+
+-- with this in place of the exchange that takes proposals
+abbrev pub with_proposing : SecuredState → ProposingState → SecuredState
+with_proposing state now = secured_of (serving_of now state.serving.closed) state.secured

@@ -4,7 +4,9 @@ use Rattle.std.proofs.lemmas.List.Elements.{All-nil, All-cons, All-head, All-tai
 use Rattle.live_lines.specs.Output.{lines_output, output_of}
 use Rattle.live_lines.proofs.Places.{no_answer, output_is}
 use Rattle.members.specs.declared.refusal.MemberRefusal.{MemberRefusal}
+use Rattle.exchange_lines.specs.LineSteps.{input_lines}
 use Rattle.proposal_lines.specs.Promises.{TellsBy}
+use Rattle.proposal_lines.proofs.Telling.{empty_is_sound}
 use Rattle.secured_lines.specs.Output.{secured_said}
 use Rattle.secured_lines.specs.SecuredState.{SecuredState, empty_secured, exchange_in, with_opened}
 use Rattle.session_lines.specs.Laws.{as_input}
@@ -13,7 +15,7 @@ use Rattle.member_lines.specs.Laws.{SaidBody, body_for, rule_refusal}
 use Rattle.served_members.specs.Laws.{after_body}
 use Rattle.served_members.specs.Members.{ServedMembers, empty_members, free_body}
 use Rattle.served_members.specs.Promises.{AllowedBodiesTell, AreBodies, FreeBodiesTell, Saying, bodies_in, free_texts, sessions_in, turn_line, with_filler}
-use Rattle.served_members.proofs.Serving.{free_lines_tell}
+use Rattle.served_members.proofs.Serving.{free_lines_tell, free_lines_use_the_best}
 
 -- each session has its turn
 by_turns : (number : ℕ) (served : SecuredState) (bodies : List SaidBody) → AreBodies bodies
@@ -32,7 +34,8 @@ free_bodies_tell bodies are =
     let text : output_of turn_line true first input ≡ free_texts 1 empty_secured bodies =
     output_is turn_line true first input ∙ ap (λ (l : List (List ℕ)). (lines_output turn_line true 1 first l).0) (split_input (bodies_in bodies) are)
     ∙ sym (by_turns 1 empty_secured bodies are) in
-    subst (TellsBy (λ (state : Saying). state.1.serving.proposing) turn_line first input) text (free_lines_tell (sessions_in bodies) input)
+    let told = subst (TellsBy (λ (state : Saying). state.1.serving.proposing) turn_line first input) text (free_lines_tell (sessions_in bodies) input) in
+    record { told = told; closed = free_lines_use_the_best first (input_lines input) told.answers empty_is_sound told.to_lines }
 
 -- ---- with a body in place of some
 filled : (filler body : List ℕ) (refusal : Option MemberRefusal) → IsBody filler → IsBody body → IsBody (body_for exchange_in secured_said with_opened filler refusal body)

@@ -1,6 +1,7 @@
 pub mod Bodies
 pub mod Freed
 pub mod LinesKept
+pub mod Lowering
 pub mod Once
 pub mod Paying
 pub mod Questions

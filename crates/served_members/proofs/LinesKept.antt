@@ -1,26 +1,20 @@
 -- What is promised of lines of any kind, wherever they are parted.
-use Rattle.std.proofs.Common.{List, [], ◌∷◌}
+use Rattle.std.proofs.Common.{List, []}
 use Rattle.exchange_lines.specs.LineSteps.{InputLine, input_lines}
-use Rattle.proposal_lines.specs.Laws.{IsSound}
 use Rattle.proposal_lines.proofs.Telling.{empty_is_sound}
 use Rattle.secured_lines.specs.Laws.{IsGuarded, state_by_lines}
-use Rattle.secured_lines.specs.Output.{secured_line}
-use Rattle.secured_lines.specs.SecuredState.{SecuredState, empty_secured}
+use Rattle.secured_lines.specs.SecuredState.{empty_secured}
 use Rattle.secured_lines.proofs.Outputs.{outputs_tell_secured}
 use Rattle.secured_lines.proofs.StandingStill.{closed_markets_stand_still}
 use Rattle.secured_lines.proofs.StayingSafe.{secured_can_pay, served_stay_safe, traders_can_pay}
-use Rattle.secured_lines.proofs.Telling.{secured_sound}
+use Rattle.secured_lines.proofs.Telling.{lines_sound}
 use Rattle.served_members.specs.Lines.{AreKeptThroughout, OutputsTellServed}
 use Rattle.served_members.proofs.Questions.{questions_are_told}
-
-all_sound : (state : SecuredState) (lines : List InputLine) → IsSound state.serving.proposing → IsSound (state_by_lines state lines).serving.proposing
-all_sound state [] sound = sound
-all_sound state (line ∷ lines) sound = all_sound (secured_line line.number state line.bytes).1 lines (secured_sound line state sound)
 
 lines_are_kept : (lines : List InputLine) → AreKeptThroughout lines
 lines_are_kept lines front later parted =
     let state = state_by_lines empty_secured front in
-    let sound = all_sound empty_secured front empty_is_sound in
+    let sound = lines_sound empty_secured front empty_is_sound in
     let guarded : IsGuarded state = record { sound = sound; safe = served_stay_safe front } in
     record {
       asks = λ number body. questions_are_told number state body sound;

@@ -16,10 +16,13 @@ use Rattle.command_text.proofs.ReadWithin.{said_is_within}
 use Rattle.exchange_lines.specs.LineSteps.{InputLine}
 use Rattle.proposal_lines.proofs.Telling.{empty_is_sound}
 use Rattle.secured_accounts.specs.Laws.{AreSafe, IsSafe}
+use Rattle.secured_accounts.specs.Money.{IsAccountedFor}
 use Rattle.secured_accounts.specs.Secured.{account_of, is_secured}
+use Rattle.secured_accounts.proofs.Money.{money_is_kept}
 use Rattle.secured_accounts.proofs.Ruled.{secured_or_new}
 use Rattle.secured_lines.specs.Laws.{guarded_in}
 use Rattle.secured_lines.specs.SecuredState.{SecuredState, empty_secured, exchange_in, with_opened}
+use Rattle.secured_lines.proofs.Money.{line_counted}
 use Rattle.secured_lines.proofs.StayingSafe.{line_safe}
 use Rattle.secured_lines.proofs.Telling.{secured_sound}
 use Rattle.member_lines.specs.Laws.{SaidBody}
@@ -36,6 +39,7 @@ record IsPaid (served : SecuredState) : Type 0 where
   sound : IsSoundServed served
   safe : AreSafe (guarded_in served)
   unopened : UnopenedAreSafe (exchange_in served)
+  counted : IsAccountedFor (exchange_in served)
 
 -- ---- a body
 module _ (number : ℕ) (state : ServedMembers) (said : SaidBody) (paid : IsPaid state.served) where
@@ -50,6 +54,7 @@ module _ (number : ℕ) (state : ServedMembers) (said : SaidBody) (paid : IsPaid
     sound = secured_sound line state.served paid.sound;
     safe = line_safe state.served line paid.sound paid.safe;
     unopened = unopened_stay state.served line paid.sound paid.unopened;
+    counted = line_counted state.served line paid.sound paid.counted;
   }
 
   -- the number of an account that is opened is not 0
@@ -69,6 +74,7 @@ module _ (number : ℕ) (state : ServedMembers) (said : SaidBody) (paid : IsPaid
             ⊎_elim (λ (was : is_secured behind.secured other ≡ true). now.safe other was)
             (λ (same : account ≡ other). subst (IsSafe (exchange_in behind)) same new) (secured_or_new other behind.secured account own);
         unopened = now.unopened;
+        counted = now.counted;
       }
 
   body_paid : IsPaid (after_body number state said).served
@@ -86,6 +92,7 @@ none_paid = record {
   sound = empty_is_sound;
   safe = λ account own. cc;
   unopened = λ account some closed. record { trader = some; above = record { parts = []; enough = tt; sum = omega (arith, ints) } };
+  counted = money_is_kept.first;
 }
 
 none_secured : AreSecured empty_members
@@ -99,6 +106,7 @@ are_paying state paid secured =
     secured_can_pay (portfolios (account_of exchange account)) (balance_of account exchange.entries) (paid.safe account own).above in
     record {
       safe = paid.safe;
+      money = money_is_kept.sums exchange paid.counted;
       members = λ account owner own member. pays account (secured account owner own member);
       traders = λ all account trader opened. pays account (all account trader opened);
     }

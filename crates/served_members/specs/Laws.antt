@@ -12,6 +12,7 @@ use Rattle.members.specs.Laws.{IsOwner}
 use Rattle.members.specs.Members.{Owned, owner_of}
 use Rattle.members.specs.Rule.{is_operator}
 use Rattle.secured_accounts.specs.Laws.{AllSecured, AreSafe, CanPay}
+use Rattle.secured_accounts.specs.Money.{AddUp}
 use Rattle.secured_accounts.specs.Secured.{is_secured}
 use Rattle.secured_lines.specs.Laws.{guarded_in}
 use Rattle.secured_lines.specs.Output.{secured_said}
@@ -82,9 +83,11 @@ SecuredByWill =
 
 -- ---- what they can pay
 -- the balance of each secured account is at or above its true need; so no account of a session that
--- is not the operator's owes anything, and none of a trader does where all are secured
+-- is not the operator's owes anything, and none of a trader does where all are secured; and all
+-- balances sum to deposits less withdrawals
 pub record ArePaying (state : ServedMembers) : Type 0 where
   pub safe : AreSafe (guarded_in state.served)
+  pub money : AddUp (exchange_in state.served)
   pub members : (account owner : ℕ) → owner_of state.members.owners account ≡ Some owner → is_operator owner ≡ false → CanPay (guarded_in state.served) account
   pub traders : AllSecured (guarded_in state.served) → (account : ℕ) → 1 ≤ account → is_open (exchange_in state.served).accounts account ≡ true → CanPay (guarded_in state.served) account
 

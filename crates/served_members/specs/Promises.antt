@@ -4,10 +4,14 @@ use Rattle.std.specs.List.{All}
 use Rattle.command_text.specs.declared.asked.Fault.{Fault}
 use Rattle.command_text.specs.declared.words.TheConstants.{SERVED}
 use Rattle.command_text.specs.Said.{said_in}
+use Rattle.exchange_lines.specs.LineSteps.{input_lines}
 use Rattle.live_lines.specs.Output.{output_of}
+use Rattle.proposal_lines.specs.LaterClears.{LowersNothing}
 use Rattle.proposal_lines.specs.Promises.{TellsBy}
+use Rattle.proposal_lines.specs.ProposingState.{ProposingState}
+use Rattle.secured_lines.specs.ClosedBest.{UsesBestOfClosed}
 use Rattle.secured_lines.specs.Output.{secured_said}
-use Rattle.secured_lines.specs.SecuredState.{SecuredState, empty_secured, exchange_in, with_opened}
+use Rattle.secured_lines.specs.SecuredState.{SecuredState, empty_secured, exchange_in, with_opened, with_proposing}
 use Rattle.session_gate.specs.Bodies.{is_body}
 use Rattle.session_lines.specs.Laws.{as_input}
 use Rattle.member_lines.specs.Laws.{AreAsServed, OthersAreRefused, RefusalsAreTold, SaidBody, body_for, rule_refusal}
@@ -40,6 +44,14 @@ FreeLinesTell =
     (sessions input : List ℕ)
     → TellsBy (λ (state : Saying). state.1.serving.proposing) turn_line (sessions, empty_secured) input (output_of turn_line true (sessions, empty_secured) input)
 
+-- with this in place of the exchange that takes proposals
+abbrev pub placing : Saying → ProposingState → Saying
+placing state now = (state.0, with_proposing state.1 now)
+
+-- no proposal lowers what a clear of its market tells, while its live orders stay
+abbrev pub FreeLinesLowerNothing : Type 0
+FreeLinesLowerNothing = LowersNothing (λ (state : Saying). state.1.serving.proposing) turn_line placing
+
 -- ---- bodies where there is no rule
 abbrev pub sessions_in : List SaidBody → List ℕ
 sessions_in bodies = map (λ (said : SaidBody). said.session) bodies
@@ -55,10 +67,11 @@ abbrev pub free_texts : ℕ → SecuredState → List SaidBody → List ℕ
 free_texts number served [] = []
 free_texts number served (said ∷ more) = let now = free_body said.session number served said.body in now.0 ++ free_texts (number + 1) now.1 more
 
--- as the lines of one input they keep what is promised where proposals are taken
-abbrev pub TellFree : List SaidBody → Type 0
-TellFree bodies =
-    TellsBy (λ (state : Saying). state.1.serving.proposing) turn_line (sessions_in bodies, empty_secured) (as_input (bodies_in bodies)) (free_texts 1 empty_secured bodies)
+-- as the lines of one input they keep what is promised where proposals are taken, and the next clear
+-- of a closed market is as good as each proposal that was taken since it was closed
+pub record TellFree (bodies : List SaidBody) : Type 0 where
+  pub told : TellsBy (λ (state : Saying). state.1.serving.proposing) turn_line (sessions_in bodies, empty_secured) (as_input (bodies_in bodies)) (free_texts 1 empty_secured bodies)
+  pub closed : UsesBestOfClosed (λ (state : Saying). state.1.serving) turn_line (sessions_in bodies, empty_secured) (input_lines (as_input (bodies_in bodies))) told.answers
 
 abbrev pub FreeBodiesTell : Type 0
 FreeBodiesTell = (bodies : List SaidBody) → AreBodies bodies → TellFree bodies

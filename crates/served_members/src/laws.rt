@@ -2,7 +2,7 @@
 ghost use Rattle.served_members.specs.Asking.{QuestionsAreTold};
 ghost use Rattle.served_members.specs.Laws.{ClosedMarketsStandStill, MembersAreSecured, MembersCanPay, MembersTellOnce, MoveByRule, OwnedByOpening, SecuredByWill};
 ghost use Rattle.served_members.specs.Lines.{OutputsTellServed};
-ghost use Rattle.served_members.specs.Promises.{AllowedBodiesTell, AreServed, FreeLinesTell};
+ghost use Rattle.served_members.specs.Promises.{AllowedBodiesTell, AreServed, FreeLinesLowerNothing, FreeLinesTell};
 ghost use Rattle.served_members.specs.Ruled.{MembersAreRuled};
 
 /// What is asked of lines is told as the next line would be, where it may be asked.
@@ -30,6 +30,12 @@ pub fn members_tell_once()
 /// but what members open is secured, with one that is no line in place of each that is refused.
 pub fn members_are_served()
     ensures { AreServed }
+{}
+
+/// No proposal lowers what a clear of its market tells, while its live orders stay, whoever says the
+/// lines.
+pub fn free_lines_lower_nothing()
+    ensures { FreeLinesLowerNothing }
 {}
 
 /// Whoever says the lines of an input where there is no rule, but what members open is secured,

@@ -1,4 +1,4 @@
-use Rattle.std.proofs.Common.{arith}
+use Rattle.std.proofs.Common.{arith, inr}
 use Rattle.std.proofs.lemmas.Result.{IfOk-weaker}
 use Rattle.book_proposals.proofs.ProposalsWithin.{nothing_within, submission_within}
 use Rattle.book_proposals.proofs.ShortLines.{nothing_short}
@@ -13,6 +13,7 @@ returns-in_ok-nothing-in-None c =
     (λ text is. record {
       proposal = proposal;
       judged = c.in_ok-nothing-in-None.ensures.judged;
+      earned = inr nothing;
       within = submission_within batch proposal c.requires.ranges (nothing_within batch proposal nothing);
       is = is;
       short = nothing_short batch proposal c.requires.ranges nothing c.args.market text.items (omega arith) is;

@@ -1,4 +1,4 @@
-use Rattle.std.proofs.Common.{ℕ, ◌+◌, ◌≤◌, List, length, rules, subst}
+use Rattle.std.proofs.Common.{ℕ, ◌+◌, ◌≤◌, List, length, inl, rules, subst}
 use Rattle.limits.specs.declared.TheConstants.{MAX_BYTES}
 use Rattle.book_proposals.proofs.ProposalsWithin.{submission_within}
 use Rattle.book_proposals.proofs.answers.written_line.Goals as goal
@@ -10,6 +10,7 @@ returns-then-is_short c =
     record {
       proposal = proposal;
       judged = c.requires.judged;
+      earned = inl c.requires.earned;
       within = submission_within c.args.batch.now proposal c.requires.ranges (c.is_written.ensures (search rules));
       is = c.in_ok-line.ensures;
       short = subst (λ (line : List ℕ). length line ≤ MAX_BYTES + 1) c.deref.ensures.value short;
