@@ -22,12 +22,14 @@ from ragvismo import (
     buy,
     bundle,
     call,
+    clear,
+    exact,
     put,
     sell,
     solvers,
 )
 from ragvismo.proposals import net_of, premium_of
-from test_ragvismo import basket, butterfly, example, options, wants
+from test_ragvismo import basket, butterfly, example, has_program, options, wants
 
 EXAMPLES = (
     *(("butterfly", None), ("spread", None), ("one_option", None), ("basket", None)),
@@ -42,6 +44,17 @@ def drawn_states(draw: random.Random, underlyings: int) -> "list[tuple[int, ...]
         (draw.choice((0, 1, 1, 3)), *(draw.randint(0, 60) for _ in range(underlyings)))
         for _ in range(200)
     ]
+
+
+def few_of_many(draw: random.Random, underlyings: int, orders: int) -> Batch:
+    """Orders on one to three underlyings each, with strikes around 10 for each of them."""
+    made = []
+    for _ in range(orders):
+        chosen = draw.sample(range(underlyings), draw.randint(1, 3))
+        weights = [draw.choice((-1, 1, 1, 2)) if at in chosen else 0 for at in range(underlyings)]
+        option = draw.choice((call, put))(draw.choice((8, 10, 12)) * sum(weights), *weights)
+        made.append(draw.choice((buy, sell))(option, draw.randint(2, 9), draw.randint(1, 5)))
+    return Batch(made)
 
 
 class Rechecks(unittest.TestCase):
@@ -118,8 +131,8 @@ class Rechecks(unittest.TestCase):
                 json.loads(text.replace(f'{{"at": {place}, "by": "', f'{{"at": {place}, "by": "9')),
             ],
         }
-        for condition, covers in changed.items():
-            for cover in covers:
+        for condition, changes in changed.items():
+            for cover in changes:
                 proposal = Proposal(tuple(it.fills), it.liability, cover, measure)
                 self.assertEqual(self.failed(batch, proposal), condition, cover)
         long = [{"split": 1}] * 2_000
@@ -177,6 +190,65 @@ class Rechecks(unittest.TestCase):
 
 
 @wants("scipy")
+class ExactPrograms(unittest.TestCase):
+    """`exact.least` beside HiGHS."""
+
+    def test_drawn_programs(self) -> None:
+        from scipy.optimize import linprog
+
+        draw = random.Random(9)
+        ended = {"none": 0, "most": 0, "above": 0}
+        for number in range(300):
+            rows, many = draw.randint(1, 5), draw.randint(0, 9)
+            base = [Fraction(draw.randint(-9, 9), draw.choice((1, 3, 8))) for _ in range(rows)]
+            columns = [[draw.randint(-3, 3) for _ in range(rows)] for _ in range(many)]
+            ends = [draw.choice((None, Fraction(draw.randint(1, 9), 7))) for _ in range(many)]
+            found = exact.least(base, columns, ends, Fraction(-1))
+            lines = [[float(it[at]) for it in columns] + [-(at == 0)] for at in range(rows)]
+            near = linprog(
+                [0] * many + [1],
+                A_ub=lines,
+                b_ub=[-float(it) - (at == 0) for at, it in enumerate(base)],
+                bounds=[*((0, None if it is None else float(it)) for it in ends), (0, None)],
+                method="highs",
+            )
+            self.assertEqual(found is None, near.x is None, number)
+            if found is None:
+                ended["none"] += 1
+                continue
+            for by, end in zip(found, ends):
+                self.assertTrue(0 <= by and (end is None or by <= end), number)
+            entries = [
+                own + sum(by * it[at] for by, it in zip(found, columns))
+                for at, own in enumerate(base)
+            ]
+            self.assertLessEqual(max(entries[1:], default=Fraction(0)), 0, number)
+            above = max(entries[0] + 1, Fraction(0))
+            self.assertAlmostEqual(float(above), near.fun, msg=str(number))
+            ended["above" if above else "most"] += 1
+        self.assertGreater(min(ended.values()), 20, ended)
+
+    def test_no_program_runs_in_a_circle(self) -> None:
+        """By Bland's rule alone the same is found."""
+        draw = random.Random(10)
+        for _ in range(100):
+            base = [Fraction(draw.choice((0, 0, 1, -1))) for _ in range(4)]
+            columns = [[draw.choice((0, 1, -1)) for _ in base] for _ in range(8)]
+            ends = [draw.choice((None, Fraction(1))) for _ in columns]
+            both = []
+            for farthest in (exact.FARTHEST, 0):
+                with mock.patch.object(exact, "FARTHEST", farthest):
+                    both.append(exact.least(base, columns, ends, Fraction(0)))
+            firsts = [
+                None
+                if it is None
+                else max(sum(by * of[0] for by, of in zip(it, columns)), -base[0])
+                for it in both
+            ]
+            self.assertEqual(*firsts)
+
+
+@wants("scipy")
 class Certificates(unittest.TestCase):
     def test_optimal_fills_need_no_more_than_they_did(self) -> None:
         for name, number in EXAMPLES:
@@ -184,6 +256,44 @@ class Certificates(unittest.TestCase):
             found = solvers.certify(it.to_batch(), it.fills, it.certificate.measure)
             self.assertEqual(found.surplus(it.to_batch()), it.surplus, name)
             self.assertEqual(found.bound(it.to_batch()), it.bound, name)
+
+    def test_fills_that_meet_are_a_match(self) -> None:
+        """On several underlyings; where only what they owe meets, the cover is one leaf."""
+        option, other = call(10, 1, 1), call(7, 1, -1)
+        batch = Batch([buy(option, 6, 2), sell(option, 4, 1), sell(option, 3, 3), buy(other, 5)])
+        found = solvers.certify(batch, [2, 1, 1, 0], [State((1, 0, 0), Fraction(1))])
+        self.assertEqual((found.cover, found.surplus(batch)), ("match", 5))
+        twice = [(2, option), (-1, put(10, 1, 1))]
+        batch = Batch([bundle("buy", twice, 9), sell(option, 4, 2), buy(put(10, 1, 1), 1)])
+        found = solvers.certify(batch, [1, 2, 1], [State((1, 0, 0), Fraction(1))])
+        self.assertEqual((found.cover, found.surplus(batch)), ({"cells": [{"leaf": []}]}, 2))
+
+    def test_covers_on_several_underlyings_are_cells(self) -> None:
+        """With fewer nodes than the tree of signs, and bounds by classes with a sign among them."""
+        it = example("hundred")
+        found = solvers.certify(it.to_batch(), it.fills, it.certificate.measure)
+        assert isinstance(found.cover, dict) and isinstance(it.certificate.cover, list)
+        nodes = found.cover["cells"]
+        self.assertLess(len(nodes), len(it.certificate.cover))
+        self.assertTrue(any("bound" in node for node in nodes))
+        self.assertTrue(any("full" in node for node in nodes))
+        self.assertLess(it.surplus - found.surplus(it.to_batch()), Fraction(1, 10**6))
+
+    def test_many_random_orders_have_a_cover(self) -> None:
+        """64 orders on eight underlyings, each on one to three of them: the cover leaves as good as
+        all of the bound, and the exchange takes it."""
+        batch = few_of_many(random.Random(3), 8, 64)
+        found = solvers.highs(batch)
+        assert isinstance(found.cover, dict)
+        self.assertGreater(found.surplus(batch), 60)
+        self.assertLess(found.bound(batch) - found.surplus(batch), found.bound(batch) / 10**7)
+        self.assertLess(len(found.cover["cells"]), 500)
+        if has_program():
+            cleared = clear(batch, solver=lambda _: found, budget=1)
+            self.assertEqual(
+                (cleared.fills, cleared.bound), (list(found.fills), found.bound(batch))
+            )
+            cleared.certificate.check()
 
     def test_a_cover_holds_at_drawn_states(self) -> None:
         """The liability is enough wherever one looks, and at most a grain above the worst."""
@@ -214,6 +324,13 @@ class Certificates(unittest.TestCase):
             with self.assertRaises(NoCover) as caught:
                 solvers.certify(batch, fills, [state])
             self.assertIn(why, str(caught.exception))
+        grain = Fraction(1, 2**50)
+        one, other = call(5, 1, 0), call(7, 1, 2)
+        batch = Batch([buy(one, 9), sell(one, 1), buy(other, 9), sell(call(4, 1, 2), 1)])
+        with self.assertRaises(NoCover) as caught:
+            solvers.certify(batch, [Fraction(1, 2) + grain, Fraction(1, 2), 1, 1], [two])
+        self.assertIn("by less than floats tell", str(caught.exception))
+        solvers.certify(batch, [Fraction(1, 2) - grain, Fraction(1, 2), 1, 1], [two])
         it = example("demo", 3)
         with self.assertRaises(NoCover) as caught:
             solvers.certify(it.to_batch(), it.fills, it.certificate.measure, nodes=5)
@@ -277,9 +394,9 @@ class Highs(unittest.TestCase):
             self.assertEqual(found.surplus(Batch(orders)), surplus)
             self.assertEqual(found.bound(Batch(orders)), surplus)
 
-    def test_leaves_that_close_with_a_little_more(self) -> None:
-        """A batch on four underlyings, for which floats close a leaf that fractions close only with
-        more liability."""
+    def test_leaves_that_floats_do_not_close(self) -> None:
+        """A batch on four underlyings with a leaf whose multipliers in floats are far from those
+        that close it in fractions: in some of its directions nothing is owed at all."""
         draw = random.Random(77)
         for _ in range(7):
             number = draw.choice([1, 1, 2, 2, 3, 4, 8])
@@ -291,8 +408,6 @@ class Highs(unittest.TestCase):
         self.assertEqual((len(batch.orders), batch.underlyings), (21, 4))
         gap = found.bound(batch) - found.surplus(batch)
         self.assertLess(gap, found.bound(batch) / 10**6)
-        with mock.patch.object(ragvismo.covers, "ROOMS", (0.0,)):
-            self.assertEqual(solvers.highs(batch).surplus(batch), 0)
 
     def test_what_a_run_gave_up(self) -> None:
         """100 orders on three underlyings: at least the fills that were proposed then, and near."""

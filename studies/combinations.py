@@ -8,10 +8,10 @@ Two kinds of books (studies/books.py), both of calls and puts that are bid and a
 their traders: random ones, on one to three of the underlyings with weights -1, 1 and 2; and names,
 where six in ten orders are on a single underlying, and the others on a pair (one less another), on
 the index (one of each) or on an odd basket. Of each kind and each number of underlyings there are N
-batches of 20 orders and of 64 (24), and a 24th as many of 128 and of 256, which take the solver up
-to half a minute each. It is capped by its line of at most 1,000,000 bytes: where the tree that
-proves all its fills is longer, it fills a part of the orders, and the bound stays that of all. So
-the gaps are larger there, and told. Each batch is cleared
+batches of 20 orders, of 64 and of 128 (24), and a fifth as many of 256, which take the solver up to
+half a minute each. Its work and its line are capped: where the cover of all its fills takes more,
+it fills a part of the orders, and the bound stays that of all. Such gaps are larger, and told. Each
+batch is cleared
 
     joint    with all in one market, by the exchange's own run of 2,000 units and its solver
     sum      with a market for each weighted sum, of all strikes
@@ -53,8 +53,8 @@ from ragvismo.cleared import Cover
 WHOLE, OWN_BUDGET = 24, 2_000
 # The orders of a batch on so many underlyings.
 SIZES = dict.fromkeys((2, 3, 4, 8), (20, 64, 128, 256))
-# Of so many batches one is made of so many orders, which take long: the one at this place.
-EVERY, PLACES = 24, {128: 11, 256: 23}
+# Batches of more orders than this take long: of so many one is made, the one at this place.
+QUICK, EVERY, PLACE = 128, 5, 3
 # What the books are called in the figure.
 ABOUT = {"random": "random books", "names": "books of names, pairs, an index, baskets"}
 # So many batches of so many orders are given to both solvers.
@@ -160,7 +160,7 @@ def together(batch: Batch, found: Sequence[Cleared]) -> Market:
 
 
 def one(case: Case, number: int, given: Given) -> tuple[Found | None, list[Cleared]]:
-    if number % EVERY != PLACES.get(case.orders, number % EVERY):
+    if case.orders > QUICK and number % EVERY != PLACE:
         return None, []
     draw = random.Random(f"combinations {case.books} {case.underlyings} {number}")
     batch = books.KINDS[case.books](case.underlyings, case.orders, draw)

@@ -6,12 +6,13 @@ import json
 import os
 import pathlib
 import random
+import re
 import subprocess
 import sys
 import tempfile
 import time
 import unittest
-from collections.abc import Callable, Hashable
+from collections.abc import Callable, Hashable, Iterable
 from typing import TypeVar
 from unittest import mock
 
@@ -37,6 +38,15 @@ PLAIN = common.Given(None, None)
 BUTTERFLY = ("C,5,,8,1,1", "C,10,6,,1,1", "C,12,0,4.00,1,1")
 WIDE = ("C,5,,8,1,1", "C,10,5,9,1,1", "C,12,0,4.00,1,1")
 HEAD = "cp_flag,strike,best_bid,best_offer,bid_size,offer_size"
+
+
+NUMBER = re.compile(r"(?<![\w.])-?\d[\d,]*(?:\.\d+)?")
+INTERVAL = re.compile(rf"({NUMBER.pattern})\s±\s({NUMBER.pattern})")
+RESULT = re.compile(r"\[table\]\(../studies/results/(\w+)\.md\)")
+
+
+def numbers(texts: Iterable[str]) -> list[float]:
+    return [float(it.replace(",", "")) for it in texts]
 
 
 def row_of(cells: "list[object]") -> str:
@@ -106,10 +116,18 @@ class Studies(unittest.TestCase):
         self.committed("strikes", *strikes.row(4, grid, free))
 
     def test_combinations(self) -> None:
+        """Of the gaps, which a solver of floats leaves, only that they are small; and which of
+        several greatest fills it finds may move what is filled a little."""
         case = combinations.Case("names", 2, 20)
         found = [it for it in self.whole(combinations.one, case, combinations.WHOLE) if it]
-        for cells in (combinations.measures, combinations.filled):
-            self.committed("combinations", *case, *cells(found))
+        self.assertLess(max(it.gap for it in found), 1e-4)
+        table = (HERE / "results/combinations.md").read_text()
+        count, marks, _, _, *rest = combinations.measures(found)
+        told = re.escape(row_of([*case, count, marks, "gap", "gap", *rest]))
+        self.assertRegex(table, told.replace("gap", r"[\de.-]+"))
+        _, kept, _ = re.findall(re.escape(row_of([*case])[:-1]) + r"(.*) \|\n", table)
+        for one, other in zip(combinations.filled(found), kept.split("|"), strict=True):
+            self.assertAlmostEqual(float(str(one)), float(other), delta=1)
         with mock.patch.object(combinations, "SIZES", {2: (20,), 3: (20,)}):
             self.drawn(combinations.study(PLAIN._replace(batches=2)))
 
@@ -206,16 +224,20 @@ class Machines(unittest.TestCase):
         self.addCleanup(held.cleanup)
         self.folder = pathlib.Path(held.name)
 
-    def ran(self, *words: str, path: str = "") -> "subprocess.CompletedProcess[str]":
-        command = [PYTHON, "-B", str(HERE / "strikes.py"), "--batches", "2", *words]
+    def ran(
+        self, *words: str, study: str = "strikes", path: str = ""
+    ) -> "subprocess.CompletedProcess[str]":
+        command = [PYTHON, "-B", str(HERE / f"{study}.py"), "--batches", "2", *words]
         environment = {**os.environ, "PYTHONPATH": path}
         return subprocess.run(command, capture_output=True, text=True, env=environment)
 
-    def written(self, name: str, *words: str, path: str = "") -> dict[str, bytes]:
+    def written(
+        self, name: str, *words: str, study: str = "strikes", path: str = ""
+    ) -> dict[str, bytes]:
         """The files that a study writes."""
-        out = self.folder / name
+        out = self.folder / f"{study}-{name}"
         out.mkdir()
-        ran = self.ran("--out", str(out), "--journals", str(out), *words, path=path)
+        ran = self.ran("--out", str(out), "--journals", str(out), *words, study=study, path=path)
         self.assertEqual(ran.returncode, 0, ran.stderr)
         return {it.name: it.read_bytes() for it in sorted(out.iterdir())}
 
@@ -254,6 +276,18 @@ class Machines(unittest.TestCase):
         if importlib.util.find_spec("distributed"):
             self.assertEqual(self.written("dask", "--scheduler", self.scheduler()), here)
 
+    @wants_program
+    @wants("matplotlib")
+    @wants("scipy")
+    @wants("distributed")
+    def test_each_new_study_by_processes_and_machines(self) -> None:
+        address = self.scheduler()
+        for study in ("payments", "over_time", "lots"):
+            alone = self.written("alone", study=study)
+            self.assertEqual(len(alone), 3)
+            self.assertEqual(self.written("two", "--workers", "2", study=study), alone)
+            self.assertEqual(self.written("dask", "--scheduler", address, study=study), alone)
+
     def test_what_is_missing_is_told(self) -> None:
         (self.folder / "distributed.py").write_text("raise ImportError")
         one, other = ["--scheduler", "tcp://here:8786"], ["--workers", "2"]
@@ -261,6 +295,26 @@ class Machines(unittest.TestCase):
             ran = self.ran(*words, path=str(self.folder))
             self.assertEqual((ran.returncode, ran.stdout, ran.stderr.count("\n")), (2, "", 1))
             self.assertIn(said, ran.stderr)
+
+
+class Claims(unittest.TestCase):
+    """What docs/RESEARCH.md says of a study is what its table says."""
+
+    def test_claims_are_of_the_tables(self) -> None:
+        """Each interval, and each number of three digits and more, rounded as it is told."""
+        told = (TOP / "docs/RESEARCH.md").read_text().split("\n\n")
+        named = [(found[1], it) for it in told if (found := RESULT.search(it))]
+        self.assertEqual(sorted(name for name, _ in named), sorted(NAMES))
+        for name, paragraph in named:
+            table = (HERE / f"results/{name}.md").read_text()
+            intervals = list(map(numbers, INTERVAL.findall(table)))
+            for claim in INTERVAL.findall(paragraph):
+                digits = len(claim[0].partition(".")[2])
+                rounded = [[round(it, digits) for it in of] for of in intervals]
+                self.assertIn(numbers(claim), rounded, (name, claim))
+            whole = {round(it) for it in numbers(NUMBER.findall(table))}
+            for number in numbers(NUMBER.findall(paragraph)):
+                self.assertTrue(abs(number) < 100 or number in whole, (name, number))
 
 
 class ChainData(unittest.TestCase):

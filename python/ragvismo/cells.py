@@ -139,15 +139,27 @@ def leaf_entries(
         if class_ in multipliers or class_ in signs or batch.kinks[class_ - 1] >= 0:
             raise Unproved("Cover", f"class {class_} may not stand with its whole kink")
         multipliers[class_] = -batch.kinks[class_ - 1]
+    for class_, by in multipliers.items():
+        kink = batch.kinks[class_ - 1]
+        if by < 0 or (class_ not in signs and (kink >= 0 or by > -kink)):
+            raise Unproved("Cover", f"the multiplier {by} of class {class_}")
+    return leaf_sums(batch, multipliers, signs, bounds, size)
+
+
+def leaf_sums(
+    batch: Kinked,
+    multipliers: Mapping[int, Fraction],
+    signs: Mapping[int, int],
+    bounds: Mapping[int, Vector],
+    size: int,
+) -> Vector:
+    """What bounds the sum of what is owed, by multipliers that may stand there."""
     entries = batch.slope or [Fraction(0)] * size
     for class_, (form, kink) in enumerate(zip(batch.classes, batch.kinks), 1):
         by, sign = multipliers.get(class_, Fraction(0)), signs.get(class_, 0)
-        if by < 0 or (not sign and class_ in multipliers and (kink >= 0 or by > -kink)):
-            raise Unproved("Cover", f"the multiplier {by} of class {class_}")
         if not sign and kink > 0:
             bound = bounds.get(class_) or [Fraction(max(0, entry)) for entry in form]
             entries = [of + kink * entry for of, entry in zip(entries, bound)]
-        else:
-            factor = by * (sign or -1) + (kink if sign > 0 else 0)
+        elif factor := by * (sign or -1) + (kink if sign > 0 else 0):
             entries = [of + factor * entry for of, entry in zip(entries, form)]
     return entries

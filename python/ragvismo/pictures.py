@@ -346,7 +346,8 @@ def _draw_map(cleared: Cleared, layout: Layout, title: str | None, limits: Limit
     states, state_widths = tables.of_states(cleared).fitted(layout, 1)
     orders, widths = tables.of_orders(cleared).fitted(layout, 2)
     columns = 4 if layout.width > 5 else 3
-    heights = [_legend_height(7, layout, columns), layout.width - 0.9]
+    told = len(list(maps.legend(cleared, bool(traded(cleared)))))
+    heights = [_legend_height(told, layout, columns), layout.width - 0.9]
     heights += [states.height(layout) + 0.1, orders.height(layout) + 0.1]
     figure, parts = _parts(cleared, layout, heights, title)
     axes = parts[1].subplots()

@@ -173,11 +173,16 @@ def check_line(batch: Batch, fills: Sequence[Fraction], liability: Fraction) -> 
 def check_match(batch: Batch, fills: Sequence[Fraction], liability: Fraction) -> None:
     if liability:
         raise Unproved("Cover", f"a match owes nothing, and the liability is {liability}")
+    if not is_match(batch, fills):
+        raise Unproved("Cover", "more is bought than sold of a bundle, or less")
+
+
+def is_match(batch: Batch, fills: Sequence[Fraction]) -> bool:
+    """Whether as much is bought as sold of each bundle."""
     left: dict[tuple[Leg, ...], Fraction] = {}
     for order, fill in zip(batch.orders, fills):
         left[order.legs] = left.get(order.legs, Fraction(0)) + order.sign * fill
-    if any(left.values()):
-        raise Unproved("Cover", "more is bought than sold of a bundle, or less")
+    return not any(left.values())
 
 
 # Several.

@@ -18,7 +18,14 @@ from ragvismo.covers import NEAR, Numbers, least_excess, unit_of
 from ragvismo.faults import NoCover, TimedOut
 from ragvismo.orders import Batch
 from ragvismo.program import Deadline
-from ragvismo.proposals import Proposal, check_count, check_fills, check_measure, line_states
+from ragvismo.proposals import (
+    Proposal,
+    check_count,
+    check_fills,
+    check_measure,
+    is_match,
+    line_states,
+)
 
 Entries = tuple[int, ...]
 ROUNDS, STARTS = 400, 12
@@ -39,7 +46,7 @@ def certify(
     nodes: int = covers.MOST_NODES,
 ) -> Proposal:
     """The proposal of given fills: with the least liability, a cover that shows it to be enough
-    (the line on one underlying, on several a tree of signs of at most so many nodes), and a
+    (the line on one underlying; on several a match, or cells of at most so many nodes), and a
     measure, by which no fills cover more than its bound.
 
     Raises `Unproved` where a fill is outside its quantity or the measure is none, `NoCover` where
@@ -51,10 +58,10 @@ def certify(
     check_measure(states)
     if batch.underlyings == 1:
         found = covers.line(batch, whole)
-    elif any(whole):
-        found = covers.tree(batch, whole, states, Deadline(timeout), nodes)
+    elif is_match(batch, whole):
+        found = covers.Found(Fraction(0), "match")
     else:
-        found = covers.Found(Fraction(0), [{"leaf": []}])
+        found = covers.by_cells(batch, whole, states, Deadline(timeout), nodes)
     proposal = Proposal(whole, *found, states)
     if proposal.surplus(batch) < 0:
         raise NoCover(f"the fills leave {proposal.surplus(batch)} at the worst price")

@@ -7,13 +7,13 @@ import importlib.util
 import pathlib
 import subprocess
 import tempfile
+import tomllib
 import unittest
 
 from ragvismo_tools.places import TOP
 
 PYTHON = "/usr/bin/python3"
-# Folders that import from one another; a folder with a style of its own (pyproject.toml, mypy.ini)
-# has tests of its own for it.
+# Folders that import from one another.
 GROUPS = (("examples", "python", "studies", "tools"), ("service",), ("web",))
 
 
@@ -24,15 +24,8 @@ def is_python(path: pathlib.Path) -> bool:
         return opened.readline().startswith(b"#!/usr/bin/python3")
 
 
-def held(folder: pathlib.Path) -> bool:
-    """Whether a folder is there, and has no style of its own."""
-    own = folder / "pyproject.toml"
-    has_own = own.is_file() and "[tool.black]" in own.read_text()
-    return folder.is_dir() and not has_own and not (folder / "mypy.ini").is_file()
-
-
 def files_of(folders: tuple[str, ...]) -> list[pathlib.Path]:
-    found = [it for each in folders if held(TOP / each) for it in sorted((TOP / each).rglob("*"))]
+    found = [it for each in folders for it in sorted((TOP / each).rglob("*"))]
     return [it for it in found if it.is_file() and "build" not in it.parts and is_python(it)]
 
 
@@ -52,10 +45,9 @@ class Style(unittest.TestCase):
 
     def test_types(self) -> None:
         for group in GROUPS:
-            files = [it for it in files_of(group) if it.suffix]
             with tempfile.TemporaryDirectory() as kept:
-                if files:
-                    self.judged("mypy", files, "--cache-dir", kept)
+                words = "--cache-dir", kept, "--scripts-are-modules"
+                self.judged("mypy", files_of(group), *words)
 
     def test_format(self) -> None:
         self.judged("black", self.files, "--quiet", "--check", "--config", "pyproject.toml")
@@ -65,5 +57,21 @@ class Style(unittest.TestCase):
 
     def test_executables_are_thin(self) -> None:
         for file in self.files:
-            if not file.suffix and "service" not in file.parts:
+            if not file.suffix:
                 self.assertLess(len(file.read_text().splitlines()), 10, file)
+
+    def test_no_file_is_long(self) -> None:
+        for file in self.files:
+            self.assertLessEqual(len(file.read_text().splitlines()), 800, file)
+
+    def test_one_configuration(self) -> None:
+        """The one at the top holds for all folders, and knows all three linters that it may."""
+        top = tomllib.loads((TOP / "pyproject.toml").read_text())["tool"]
+        self.assertEqual([top[it]["line-length"] for it in ("ruff", "black")], [100, 100])
+        self.assertTrue(top["mypy"]["strict"])
+        for group in GROUPS:
+            for file in (it for each in group for it in (TOP / each).rglob("pyproject.toml")):
+                own = tomllib.loads(file.read_text()).get("tool", {})
+                self.assertFalse(set(own) & set(top), file)
+            for each in group:
+                self.assertEqual(list((TOP / each).rglob("mypy.ini")), [])
