@@ -10,12 +10,13 @@ SUMMED = b"%b\n%b,%b,%b,%b\n%b\n"
 
 
 def is_plain(names: list[set[bytes]], words: tuple[bytes, ...], text: bytes) -> bool:
-    """Whether there are just the fields of messages and answers, no word has a comma, nothing a
-    line feed, and no line can be too long."""
+    """Whether there are just the fields of messages and answers, no word has a comma or begins with
+    a `?`, nothing has a line feed, and no line can be too long."""
     wanted = [{name} for name in (*FIELDS, *TOLD)]
     return (
         names == wanted
         and b"," not in b"".join(words)
+        and b",?" not in b",".join((b"", *words))
         and b"\n" not in text
         and len(text) < LONGEST_LINE
     )

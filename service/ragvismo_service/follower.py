@@ -1,13 +1,14 @@
 """Answers questions, beside the log: as many followers as are needed run, on any machines.
 
-    service/follower [--at PLACE] [--program FILE] [--sessions] [--patience SECONDS]
+    service/follower [--at PLACE] [--program FILE] [--sessions] [--idle] [--patience SECONDS]
 
 It gives the messages that are answered to a program of its own, whose answers have to be the same,
 and takes questions from NAME:questions: the line ?SESSION,BODY is said to that program, and what it
 answers is told on NAME:told with the last entry that it knows of. That is at least the last one
 that was answered when the question was taken. Each question is given to one follower, and after 5 s
 of silence to another one. It may be killed at any moment, and starts by reading the log. It gives
-way to the sequencers of its machine. service/ask asks.
+way to the other processes of its machine, the sequencers among them; with --idle it runs only when
+none of these wants to, so that no question makes a message wait. service/ask asks.
 
 It runs until it is stopped, or ends with one line on standard error and status
 """
@@ -15,13 +16,13 @@ It runs until it is stopped, or ends with one line on standard error and status
 from __future__ import annotations
 
 import logging
-import os
 import time
 from collections.abc import Callable
 
 from ragvismo_service.chain import Answered
 from ragvismo_service.history import History
 from ragvismo_service.messages import START_ID, order_of
+from ragvismo_service.processes import give_way
 from ragvismo_service.program import Program, Replay
 from ragvismo_service.questions import Asked, Question, Taker
 from ragvismo_service.statuses import NOT_AGAIN, Ended, Status, table
@@ -33,8 +34,6 @@ OTHERS = Status.DONE, Status.NO, Status.HELD, Status.LAGS, Status.FILE_FAULT
 STATUSES = [status for status in Status if status not in OTHERS]
 LOOKED_AT = ", ".join(map(str, sorted(NOT_AGAIN)))
 AGAIN = f"A person has to look where it ends with {LOOKED_AT}; else it is started again."
-# By how much it gives way to others.
-NICENESS = 10
 
 
 class Answerer:
@@ -125,8 +124,9 @@ def run() -> None:
     words = Words(f"{__doc__}{table(*STATUSES)}\n\n{AGAIN}")
     words.add_program()
     words.add_rule()
+    words.add_argument("--idle", action="store_true")
     given = words.parse_args()
-    os.nice(NICENESS)
+    give_way(given.idle)
     store = store_of(given)
     logging.info("started at %s, with %s", store.place, given.program)
     Answerer(store, lambda: Program(given.program, given.patience, given.rule)).run()

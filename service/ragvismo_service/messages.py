@@ -26,6 +26,7 @@ class Fault(enum.StrEnum):
 
     FIELDS = "Fields"
     FORM = "Form"
+    MALFORMED = "Malformed"
     LONG = "Long"
 
 
@@ -35,7 +36,7 @@ def fault_of(session: bytes, number: bytes, body: bytes) -> Fault | None:
     if b"\n" in body or b"\n" in session or b"," in session or b"\n" in number or b"," in number:
         return Fault.FORM
     if session.startswith(b"?"):
-        return Fault.FORM
+        return Fault.MALFORMED
     return Fault.LONG if len(session) + len(number) + len(body) + 2 > LONGEST_LINE else None
 
 

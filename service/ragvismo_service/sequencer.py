@@ -7,11 +7,11 @@ It reads the stream NAME:in from its first entry, gives each message to `exchang
 answer to NAME:out under the id of the entry that it answers, with the head of the chain of sums. An
 entry that is no message never reaches the program; its answer is
 {"entry":ID,"reason":R,"reply":"service"}, R being Fields (other fields than session, number and
-body), Form (a line feed, a comma in session or number, or a `?` before the session, which asks) or
-Long (over 16,777,216 bytes as a line). Any number may run at once on any machines: each computes
-the same answers, and whoever is first publishes. It may be killed at any moment, and starts by
-reading again. With --sentinel it takes and answers just what another Redis has as well, so that one
-of them may be lost.
+body), Form (a line feed, or a comma in session or number), Malformed (a `?` before the session,
+which asks) or Long (over 16,777,216 bytes as a line). Any number may run at once on any machines:
+each computes the same answers, and whoever is first publishes. It may be killed at any moment, and
+starts by reading again. With --sentinel it takes and answers just what another Redis has as well,
+so that one of them may be lost.
 
 It runs until it is stopped, or ends with one line on standard error and status
 """

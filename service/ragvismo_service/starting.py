@@ -18,8 +18,8 @@ which is told; or with
 from __future__ import annotations
 
 import argparse
-import ctypes
 import dataclasses
+import functools
 import logging
 import os
 import pathlib
@@ -34,6 +34,7 @@ from typing import BinaryIO
 from ragvismo_service import files, users
 from ragvismo_service.books import FIRST_SOLVER
 from ragvismo_service.places import Place
+from ragvismo_service.processes import end_with
 from ragvismo_service.program import Rule
 from ragvismo_service.statuses import NOT_AGAIN, BadUse, Ended, Status, table
 from ragvismo_service.store import Store
@@ -42,8 +43,6 @@ from ragvismo_service.words import Words, market, number_of, password, status_of
 SERVICE = pathlib.Path(__file__).resolve().parents[1]
 Call = list[str | pathlib.Path]
 STATUSES = Status.BAD_USE, Status.NO_REDIS, Status.HELD, Status.FILE_FAULT
-# Of Linux: the signal that a process gets when the one that started it ends.
-PR_SET_PDEATHSIG = 1
 # How long a Redis of a call before may take to end.
 ENDING = 5.0
 # The greatest answer, the greatest command, and the greatest reply of Redis: two answers and a
@@ -77,17 +76,10 @@ def started(
     words: Sequence[str | pathlib.Path], handed_on: Sequence[BinaryIO] = ()
 ) -> subprocess.Popen[bytes]:
     """A process that ends when this one does, and not before by a Ctrl-C at a terminal."""
-    parent, system = os.getpid(), ctypes.CDLL(None)
-
-    def end_with_parent() -> None:
-        system.prctl(PR_SET_PDEATHSIG, signal.SIGTERM)
-        if os.getppid() != parent:
-            os._exit(Status.NO_REDIS)
-
     return subprocess.Popen(
         words,
         pass_fds=[it.fileno() for it in handed_on],
-        preexec_fn=end_with_parent,
+        preexec_fn=functools.partial(end_with, os.getpid(), Status.NO_REDIS),
         start_new_session=True,
     )
 

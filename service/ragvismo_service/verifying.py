@@ -23,6 +23,7 @@ from ragvismo_service.chain import FIRST_HEAD
 from ragvismo_service.history import History
 from ragvismo_service.messages import GREATEST_ID, START_ID, Told, time_of
 from ragvismo_service.places import Keys, Place
+from ragvismo_service.processes import end_with
 from ragvismo_service.statuses import BadUse, Ended, Status, table
 from ragvismo_service.store import Store
 from ragvismo_service.streams import counts
@@ -105,7 +106,10 @@ def verified(store: Store, kept: bytes | None, jobs: int) -> Verified:
     keys, place = Keys.of(store.place.name), store.place
     _, answered = counts(store, keys)
     cut = parts(store, keys, answered.length // LEAST) if answered.length >= 2 * LEAST else [WHOLE]
-    with concurrent.futures.ProcessPoolExecutor(max(1, jobs)) as pool:
+    ending = os.getpid(), Status.NO_REDIS
+    with concurrent.futures.ProcessPoolExecutor(
+        max(1, jobs), initializer=end_with, initargs=ending
+    ) as pool:
         held = list(pool.map(functools.partial(check, place, store.patience, kept=kept), cut))
     count = sum(it.answers for it in held)
     if kept and kept != FIRST_HEAD and not any(it.is_there for it in held):

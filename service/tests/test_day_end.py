@@ -2,6 +2,8 @@
 
 from __future__ import annotations
 
+import hashlib
+import hmac
 import json
 import pathlib
 import shlex
@@ -18,6 +20,11 @@ from ragvismo_service.store import Store
 from tests.standing import HERE, Service, free_port
 
 NO = '{"line":1,"reason":"Shape","verdict":"no"}'
+# A tool of the operator's that signs what it reads, as gpg or openssl do.
+SIGNER = """#!/usr/bin/python3 -ES
+import hashlib, hmac, sys
+print(hmac.new(b"of the operator", sys.stdin.buffer.read(), hashlib.sha256).hexdigest())
+"""
 
 
 class Copies(Service):
@@ -108,6 +115,37 @@ class DayEnd(Service):
         self.assertIn("7,1,open,1\n1,1,deposit,1,", carried)
         [copy] = (self.folder / "copies").iterdir()
         self.goes_on(copy, session.number)
+
+    def test_a_day_that_is_signed(self) -> None:
+        """The sum after the day is signed by a tool of the operator's, and tells later whether the
+        log has that day yet."""
+        sequencer = self.start_sequencer()
+        self.session(7).ask("open,1")
+        ran = self.end_day("--sign", self.script("signer", SIGNER))
+        self.assertEqual((ran.returncode, ran.stderr), (0, ""))
+        head, signature = (
+            (self.folder / f"journal/000001.{it}").read_text() for it in ("sum", "signature")
+        )
+        self.assertRegex(ran.stdout, r"\nsign: \S+/000001.signature is of \S+/000001.sum\nbackup")
+        told = hmac.new(b"of the operator", head.encode(), hashlib.sha256).hexdigest()
+        self.assertEqual(signature, told + "\n")
+        self.session(7, 2).ask("open,2")
+        self.assertEqual(self.tool("verify", "--head", head.strip()).returncode, 0)
+        self.kill(sequencer)
+        self.redis.flushall()
+        self.start_sequencer()
+        self.session(7).ask("open,3")
+        ran = self.tool("verify", "--head", head.strip())
+        self.assertEqual(ran.returncode, Status.CHANGED, ran.stderr)
+
+    def test_a_day_that_nobody_signs(self) -> None:
+        refuses = self.script("refuses", "#!/bin/sh\necho no key >&2\nexit 1\n")
+        ran = self.end_day("--sign", refuses)
+        self.assertEqual((ran.returncode, ran.stderr.count("\n")), (Status.NO, 1), ran.stderr)
+        self.assertIn("signs nothing: no key", ran.stderr)
+        self.assertNotIn("backup", ran.stdout)
+        ran = self.end_day("--sign", "/none")
+        self.assertEqual((ran.returncode, ran.stderr.count("\n")), (Status.BAD_USE, 1))
 
     def test_what_the_house_has(self) -> None:
         """It is what the exchange says after each line, by the figures of all before."""

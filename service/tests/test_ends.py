@@ -31,7 +31,7 @@ class Ends(Service):
                 *("session", 7, "number", 1, "body", "open,5", "body", "open,6"),
             ): "Fields",
             self.append(session=7, number=1, body="open,1\nopen,2"): "Form",
-            self.append(session="?7", number="balance", body="0"): "Form",
+            self.append(session="?7", number="balance", body="0"): "Malformed",
             self.append(session="7,1", number=1, body="x"): "Form",
             self.append(session=7, number=1, body=b"x" * (1 << 24)): "Long",
         }

@@ -8,7 +8,11 @@ import os
 import pathlib
 import signal
 import subprocess
+import sys
+import time
+import unittest
 
+from ragvismo_service.processes import OF_GROUP
 from ragvismo_service.questions import TRIES, Asked, Asker
 from ragvismo_service.statuses import Ended, Status
 from ragvismo_service.store import Store
@@ -28,6 +32,66 @@ ASKED = (
 )
 
 
+GIVES_WAY = """
+import os, sys
+sys.path.insert(0, sys.argv[1])
+from ragvismo_service.processes import OF_GROUP, give_way
+give_way(bool(sys.argv[2]))
+group = OF_GROUP.exists() and OF_GROUP.read_text().strip()
+print(os.nice(0), os.sched_getscheduler(0) == os.SCHED_IDLE, group)
+"""
+
+
+ENDS = """
+import concurrent.futures, os, sys, time
+sys.path.insert(0, sys.argv[1])
+from ragvismo_service.processes import end_with
+parent = os.getpid(), 3
+with concurrent.futures.ProcessPoolExecutor(1, initializer=end_with, initargs=parent) as pool:
+    print(pool.submit(os.getpid).result(), flush=True)
+    time.sleep(1000)
+"""
+
+
+def is_gone(process: int) -> bool:
+    """Whether a process has ended, though nobody may have asked for its status yet."""
+    try:
+        return ") Z " in pathlib.Path(f"/proc/{process}/stat").read_text()
+    except OSError:
+        return True
+
+
+class Processes(unittest.TestCase):
+    def told(self, is_leader: bool, idle: str = "") -> str:
+        """What becomes of a process that gives way, in a session of its own or in this one."""
+        words = [sys.executable, "-B", "-c", GIVES_WAY, str(HERE), idle]
+        ran = subprocess.run(
+            words, capture_output=True, text=True, check=True, start_new_session=is_leader
+        )
+        return ran.stdout
+
+    def test_giving_way(self) -> None:
+        """Of a group of others just the process itself does."""
+        nice = os.nice(0) + 10
+        self.assertRegex(self.told(True), f"^{nice} False (False|.* nice 10)$")
+        self.assertRegex(self.told(True, "idle"), f"^{nice} True (False|.* nice 19)$")
+        own = OF_GROUP.read_text().strip() if OF_GROUP.exists() else "False"
+        self.assertEqual(self.told(False), f"{nice} False {own}\n")
+
+    def test_ending_with_another(self) -> None:
+        """A process that is killed leaves none of those that it started."""
+        words = [sys.executable, "-B", "-c", ENDS, str(HERE)]
+        with subprocess.Popen(words, stdout=subprocess.PIPE, text=True) as parent:
+            assert parent.stdout
+            child = int(parent.stdout.readline())
+            self.assertFalse(is_gone(child))
+            parent.kill()
+        until = time.monotonic() + 120
+        while not is_gone(child):
+            self.assertLess(time.monotonic(), until)
+            time.sleep(0.01)
+
+
 class Following(Service):
     def setUp(self) -> None:
         super().setUp()
@@ -37,10 +101,12 @@ class Following(Service):
         self.asker = Asker(Store(self.place, 60, "test"))
         self.owner = self.session(OWNER)
 
+    def call(self, program: pathlib.Path | None = None) -> list[str]:
+        return [str(HERE / "follower"), *self.at, "--program", str(program or self.program)]
+
     def start_follower(self, program: pathlib.Path | None = None) -> subprocess.Popen[str]:
         """A follower, as soon as it takes questions."""
-        call = [str(HERE / "follower"), *self.at, "--program", str(program or self.program)]
-        process = subprocess.Popen(call, stderr=subprocess.PIPE, text=True)
+        process = subprocess.Popen(self.call(program), stderr=subprocess.PIPE, text=True)
         self.sequencers.append(process)
         assert process.stderr
         while "answers are read" not in (line := process.stderr.readline()):
@@ -82,6 +148,17 @@ class Following(Service):
         self.assertEqual(said, [*names, "NotAsked", "Syntax"])
         self.assertEqual(self.redis.xlen("ragvismo:questions"), 0)
         self.assertEqual(self.published(), self.computed())
+
+    def test_it_gives_way(self) -> None:
+        """A follower and its program do, and no sequencer."""
+        nice = os.nice(0)
+        for process, given in ((self.start_follower(), nice + 10), (self.sequencers[0], nice)):
+            for each in (process.pid, self.program_of(process)):
+                self.assertEqual(os.getpriority(os.PRIO_PROCESS, each), given)
+        idle = subprocess.Popen([*self.call(), "--idle"], stderr=subprocess.DEVNULL)
+        self.addCleanup(idle.wait)
+        self.addCleanup(idle.kill)
+        self.until(lambda: os.sched_getscheduler(idle.pid) == os.SCHED_IDLE)
 
     def test_who_asked_before_is_answered_by_what_it_said(self) -> None:
         """A question knows of every message that was answered before it was asked."""

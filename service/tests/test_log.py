@@ -51,6 +51,14 @@ class Sums(unittest.TestCase):
             heads_of(FIRST_HEAD, entries, answers), [fields[3] for _, fields in answers]
         )
 
+    def test_a_question_is_no_message(self) -> None:
+        """Though the sums follow from it as if it were one."""
+        head, (entries, answers) = FIRST_HEAD, self.page()
+        for (id, fields), (_, told) in zip(entries, answers):
+            fields[1] = b"?7"
+            head = told[3] = head_after(head, b",".join((id, *fields[1::2])), told[1])
+        self.assertIsNone(heads_of(FIRST_HEAD, entries, answers))
+
     def test_what_is_looked_at_one_by_one(self) -> None:
         """Another head, an entry that is no message, an answer of two lines, another id, a sum that
         does not follow."""

@@ -140,6 +140,7 @@ class Metrics(Service):
         self.until(lambda: self.told().get("ragvismo_entries") == 3)
         session.answer(1, "open,1")
         self.until(lambda: self.told()["ragvismo_answer_seconds_count"] == 1)
+        self.until(lambda: self.told()["ragvismo_lag_entries"] == 0)
         told = self.told()
         for name, value in (
             ("ragvismo_lag_entries", 0),
@@ -214,12 +215,20 @@ class Watchdog(Service):
 
     def test_units(self) -> None:
         """The watchdog of each unit that has one waits longer than a tool does for Redis or the
-        program."""
+        program; and those that compute beside the sequencer give way."""
+        giving = set[str]()
         for unit in (HERE / "systemd").glob("*.service"):
             settings = dict(re.findall(r"(?m)^(\w+)=(.*)$", unit.read_text()))
             path = pathlib.Path(
                 settings["ExecStart"].split()[0].replace("/opt/ragvismo", str(HERE.parent))
             )
             self.assertTrue(os.access(path, os.X_OK), path)
+            # A weight counts beside the others of a slice, and each template has one of its own.
+            if "CPUWeight" in settings:
+                giving.add(path.name)
+                self.assertEqual(
+                    (settings["CPUWeight"], settings["Slice"]), ("idle", "system.slice")
+                )
             if settings.get("Type") == "notify":
                 self.assertGreater(int(settings["WatchdogSec"]), 60, unit)
+        self.assertEqual(giving, {"follower", "day-end"})

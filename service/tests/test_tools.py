@@ -2,14 +2,12 @@
 
 from __future__ import annotations
 
-import importlib.util
 import json
 import os
 import pathlib
 import shlex
 import signal
 import subprocess
-import tempfile
 import time
 import unittest
 from typing import Any
@@ -368,29 +366,3 @@ class Up(unittest.TestCase):
         self.client("open,1\n")
         self.redis("gateway").xadd("ragvismo:in", {"x": 1}, maxlen=1, approximate=False)
         self.assertEqual(up.wait(30), Status.CUT)
-
-
-PYTHON = ".", "bench", "test"
-
-
-class Style(unittest.TestCase):
-    """Types and format."""
-
-    def run_module(self, module: str, *words: object) -> None:
-        if not importlib.util.find_spec(module):
-            self.skipTest(f"{module} is missing; tools/setup installs it")
-        ran = subprocess.run(
-            ["/usr/bin/python3", "-m", module, *map(str, words)],
-            cwd=HERE,
-            capture_output=True,
-            text=True,
-        )
-        self.assertEqual(ran.returncode, 0, ran.stdout + ran.stderr)
-
-    def test_types(self) -> None:
-        with tempfile.TemporaryDirectory() as kept:
-            files = "ragvismo_service", "tests", "client.py", "bench", "test"
-            self.run_module("mypy", "--cache-dir", kept, "--scripts-are-modules", *files)
-
-    def test_format(self) -> None:
-        self.run_module("black", "--quiet", "--check", "--config", "pyproject.toml", *PYTHON)
