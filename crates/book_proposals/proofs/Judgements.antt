@@ -9,7 +9,7 @@ use Rattle.cell_cover.specs.Classes.{classes_of}
 use Rattle.cell_cover.specs.Formed.{is_formed}
 use Rattle.cell_cover.specs.Read.{node_of}
 use Rattle.cell_cover.specs.declared.cover.Node.{Node}
-use Rattle.cert_check.specs.declared.outcome.No.TheVariants as no
+use Rattle.cert_check.specs.declared.outcome.FailedCondition.TheVariants as no
 use Rattle.proposal_check.specs.declared.covers.Proposal.{Proposal}
 use Rattle.proposal_check.specs.declared.covers.ProposalCover.TheVariants.{Cells}
 use Rattle.proposal_check.specs.declared.covers.Unproved.{Unproved}

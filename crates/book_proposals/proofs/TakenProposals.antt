@@ -7,8 +7,8 @@ use Rattle.std.proofs.lemmas.Slice.Eq.{bytes_eq-Decides}
 use Rattle.proposal_check.specs.Proposals.{covered_bound, fitting, has_shape, measured_bound, proposal_bound, proposal_covered, require}
 use Rattle.cert_check.specs.Shape.{are_fills}
 use Rattle.cert_check.specs.Tests.{measure_holds}
-use Rattle.cert_check.specs.declared.outcome.No.{No}
-use Rattle.cert_check.specs.declared.outcome.No.TheVariants as no
+use Rattle.cert_check.specs.declared.outcome.FailedCondition.{FailedCondition}
+use Rattle.cert_check.specs.declared.outcome.FailedCondition.TheVariants as no
 use Rattle.proposal_check.specs.declared.covers.Proposal.{Proposal}
 use Rattle.proposal_check.specs.declared.covers.Unproved.{Unproved as Reason}
 use Rattle.exact_num.specs.declared.misfit.Wide.{Wide}
@@ -80,7 +80,7 @@ number_of B lowest within =
     (x, value_from-fraction_of x)
 
 -- ---- the judgement's bound is the measure's
-required : (condition : No) (holds : Result Bool Wide) (next : Result Fraction Reason) (B : Fraction) → require condition holds next ≡ Ok B → next ≡ Ok B
+required : (condition : FailedCondition) (holds : Result Bool Wide) (next : Result Fraction Reason) (B : Fraction) → require condition holds next ≡ Ok B → next ≡ Ok B
 required condition (Ok true) next B h = h
 required condition (Ok false) next B h = absurd (cc (h))
 required condition (Err w) next B h = absurd (cc (h))

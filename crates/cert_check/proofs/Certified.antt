@@ -12,8 +12,8 @@ use Rattle.cert_check.specs.Points.{point_of}
 use Rattle.cert_check.specs.declared.outcome.Cover.TheVariants.{Line, Tree}
 use Rattle.cert_check.specs.declared.outcome.Mark.{Mark}
 use Rattle.cert_check.specs.declared.outcome.Mark.TheVariants.{Optimal, Wide, Budget}
-use Rattle.cert_check.specs.declared.outcome.No.{No}
-use Rattle.cert_check.specs.declared.outcome.No.TheVariants as no
+use Rattle.cert_check.specs.declared.outcome.FailedCondition.{FailedCondition}
+use Rattle.cert_check.specs.declared.outcome.FailedCondition.TheVariants as no
 use Rattle.cert_check.specs.declared.outcome.Outcome.{Outcome}
 use Rattle.cert_check.specs.Conditions.{IfOptimal, IsEnough, LeavesSurplus, OwesNothing, Meets}
 use Rattle.cert_check.specs.Laws.{IsCovered, IsProved, IsMeasured, ConditionsCover, ConditionsMeasure, ConditionsProve}
@@ -26,7 +26,7 @@ pub record Met (batch : Batch) (outcome : Outcome) : Type 0 where
   pub cover : Meets batch outcome no.Cover
   pub mass : Meets batch outcome no.Measure
 
-pub met : (batch : Batch) (outcome : Outcome) (rest : List No) → All (Meets batch outcome) (no.BatchShape ∷ no.Fill ∷ no.Cover ∷ no.Measure ∷ rest) → Met batch outcome × All (Meets batch outcome) rest
+pub met : (batch : Batch) (outcome : Outcome) (rest : List FailedCondition) → All (Meets batch outcome) (no.BatchShape ∷ no.Fill ∷ no.Cover ∷ no.Measure ∷ rest) → Met batch outcome × All (Meets batch outcome) rest
 met batch outcome rest all =
     let P = Meets batch outcome in
     let a = All-tail P no.BatchShape (no.Fill ∷ no.Cover ∷ no.Measure ∷ rest) all in

@@ -30,11 +30,11 @@ use Rattle.cert_check.specs.declared.outcome.Cover.{Cover}
 use Rattle.cert_check.specs.declared.outcome.Cover.TheVariants.{Line, Tree}
 use Rattle.cert_check.specs.declared.outcome.Mark.{Mark}
 use Rattle.cert_check.specs.declared.outcome.Mark.TheVariants.{Optimal, Wide, Budget}
-use Rattle.cert_check.specs.declared.outcome.No.{No}
-use Rattle.cert_check.specs.declared.outcome.No.TheVariants as no
+use Rattle.cert_check.specs.declared.outcome.FailedCondition.{FailedCondition}
+use Rattle.cert_check.specs.declared.outcome.FailedCondition.TheVariants as no
 use Rattle.cert_check.specs.declared.outcome.Outcome.{Outcome}
-use Rattle.cert_check.specs.declared.outcome.Judgement.{Judgement}
-use Rattle.cert_check.specs.declared.outcome.Judgement.TheVariants.{Yes, No as Refused, Wide as TooWide}
+use Rattle.cert_check.specs.declared.outcome.Verdict.{Verdict}
+use Rattle.cert_check.specs.declared.outcome.Verdict.TheVariants.{Yes, No as Refused, Wide as TooWide}
 use Rattle.cert_check.specs.Shape.{has_shape, are_fills}
 use Rattle.cert_check.specs.Cover.{mark_covers}
 use Rattle.cert_check.specs.Tests.{surplus_holds, bound_holds}
@@ -112,7 +112,7 @@ bound_unmet orders measure S h proves =
     cc (passes, test)
 
 -- one condition and what comes after it
-check_says : (says : Judgement → Type 0) (k : No) (r : Result Bool Misfit) (next : Judgement) → (r ≡ Ok true → says next) → (r ≡ Ok false → says (Refused k)) → ((w : Misfit) → says (TooWide w)) → says (check k r next)
+check_says : (says : Verdict → Type 0) (k : FailedCondition) (r : Result Bool Misfit) (next : Verdict) → (r ≡ Ok true → says next) → (r ≡ Ok false → says (Refused k)) → ((w : Misfit) → says (TooWide w)) → says (check k r next)
 check_says says k (Ok true) next holds fails wide = holds refl
 check_says says k (Ok false) next holds fails wide = fails refl
 check_says says k (Err w) next holds fails wide = wide w
@@ -139,12 +139,12 @@ record MetBefore (batch : Batch) (outcome : Outcome) : Type 0 where
   fills : Meets batch outcome no.Fill
   cover : Meets batch outcome no.Cover
 
-first_three : (batch : Batch) (outcome : Outcome) (rest : List No) → MetBefore batch outcome → All (Meets batch outcome) rest → All (Meets batch outcome) (no.BatchShape ∷ no.Fill ∷ no.Cover ∷ rest)
+first_three : (batch : Batch) (outcome : Outcome) (rest : List FailedCondition) → MetBefore batch outcome → All (Meets batch outcome) rest → All (Meets batch outcome) (no.BatchShape ∷ no.Fill ∷ no.Cover ∷ rest)
 first_three batch outcome rest met others =
     let P = Meets batch outcome in
     All-cons P no.BatchShape (no.Fill ∷ no.Cover ∷ rest) met.shape (All-cons P no.Fill (no.Cover ∷ rest) met.fills (All-cons P no.Cover rest met.cover others))
 
-one_more : (batch : Batch) (outcome : Outcome) (k : No) (rest : List No) → Meets batch outcome k → All (Meets batch outcome) rest → All (Meets batch outcome) (k ∷ rest)
+one_more : (batch : Batch) (outcome : Outcome) (k : FailedCondition) (rest : List FailedCondition) → Meets batch outcome k → All (Meets batch outcome) rest → All (Meets batch outcome) (k ∷ rest)
 one_more batch outcome k rest meets others = All-cons (Meets batch outcome) k rest meets others
 
 none : (batch : Batch) (outcome : Outcome) → All (Meets batch outcome) []

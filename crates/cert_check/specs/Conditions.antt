@@ -17,19 +17,19 @@ use Rattle.cert_check.specs.declared.outcome.Cover.{Cover}
 use Rattle.cert_check.specs.declared.outcome.Cover.TheVariants.{Line, Tree}
 use Rattle.cert_check.specs.declared.outcome.Mark.{Mark}
 use Rattle.cert_check.specs.declared.outcome.Mark.TheVariants.{Optimal, Wide, Budget}
-use Rattle.cert_check.specs.declared.outcome.No.{No}
-use Rattle.cert_check.specs.declared.outcome.No.TheVariants as no
+use Rattle.cert_check.specs.declared.outcome.FailedCondition.{FailedCondition}
+use Rattle.cert_check.specs.declared.outcome.FailedCondition.TheVariants as no
 use Rattle.cert_check.specs.declared.outcome.Outcome.{Outcome}
-use Rattle.cert_check.specs.declared.outcome.Judgement.{Judgement}
-use Rattle.cert_check.specs.declared.outcome.Judgement.TheVariants.{Yes, No as Refused, Wide as TooWide}
+use Rattle.cert_check.specs.declared.outcome.Verdict.{Verdict}
+use Rattle.cert_check.specs.declared.outcome.Verdict.TheVariants.{Yes, No as Refused, Wide as TooWide}
 
 -- a fact where the judgement is yes; of the condition, where it is no
-abbrev pub OnYes : Judgement → Type 0 → Type 0
+abbrev pub OnYes : Verdict → Type 0 → Type 0
 OnYes Yes P = P
 OnYes (Refused condition) P = Unit {0}
 OnYes (TooWide w) P = Unit {0}
 
-abbrev pub IfNo : Judgement → (No → Type 0) → Type 0
+abbrev pub IfNo : Verdict → (FailedCondition → Type 0) → Type 0
 IfNo Yes P = Unit {0}
 IfNo (Refused condition) P = P condition
 IfNo (TooWide w) P = Unit {0}
@@ -79,7 +79,7 @@ pub record LeavesSurplus (batch : Batch) (outcome : Outcome) : Type 0 where
   pub not_below_zero : pos 0 ≤ℤ (fraction_of outcome.claim.surplus).numerator
 
 -- a batch and its outcome meet the condition
-abbrev pub Meets : Batch → Outcome → No → Type 0
+abbrev pub Meets : Batch → Outcome → FailedCondition → Type 0
 Meets batch outcome no.BatchShape = IsOfBatch batch outcome
 Meets batch outcome no.Fill = AreFractionFills batch.orders (map fraction_of outcome.fills)
 Meets batch outcome no.Cover =
@@ -90,10 +90,10 @@ Meets batch outcome no.Bound =
     IfOptimal outcome.mark (λ cover measure. MeasureProves batch.orders (map point_of measure.points) (fraction_of outcome.claim.surplus))
 
 -- the conditions in order, and those that come before one
-abbrev pub conditions : List No
+abbrev pub conditions : List FailedCondition
 conditions = no.BatchShape ∷ no.Fill ∷ no.Cover ∷ no.Measure ∷ no.Bound ∷ []
 
-abbrev pub conditions_before : No → List No
+abbrev pub conditions_before : FailedCondition → List FailedCondition
 conditions_before no.BatchShape = []
 conditions_before no.Fill = no.BatchShape ∷ []
 conditions_before no.Cover = no.BatchShape ∷ no.Fill ∷ []
@@ -101,6 +101,6 @@ conditions_before no.Measure = no.BatchShape ∷ no.Fill ∷ no.Cover ∷ []
 conditions_before no.Bound = no.BatchShape ∷ no.Fill ∷ no.Cover ∷ no.Measure ∷ []
 
 -- the condition is the first that the batch and its outcome do not meet
-pub record IsFirstUnmet (batch : Batch) (outcome : Outcome) (condition : No) : Type 0 where
+pub record IsFirstUnmet (batch : Batch) (outcome : Outcome) (condition : FailedCondition) : Type 0 where
   pub before : All (Meets batch outcome) (conditions_before condition)
   pub unmet : ¬ (Meets batch outcome condition)

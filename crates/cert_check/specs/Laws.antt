@@ -9,8 +9,8 @@ use Rattle.clearing_model.specs.Certificate.{FillsCover, IsFractionMeasure, Meas
 use Rattle.cert_check.specs.declared.measures.Measure.{Measure}
 use Rattle.cert_check.specs.Points.{point_of}
 use Rattle.cert_check.specs.declared.outcome.Outcome.{Outcome}
-use Rattle.cert_check.specs.declared.outcome.Judgement.{Judgement}
-use Rattle.cert_check.specs.declared.outcome.Judgement.TheVariants.{Yes}
+use Rattle.cert_check.specs.declared.outcome.Verdict.{Verdict}
+use Rattle.cert_check.specs.declared.outcome.Verdict.TheVariants.{Yes}
 use Rattle.cert_check.specs.Conditions.{OnYes, IfNo, IfOptimal, Meets, conditions, IsFirstUnmet}
 use Rattle.cert_check.specs.Events.{verdict_of}
 
@@ -39,7 +39,7 @@ abbrev pub IsProvedIfOptimal : Batch → Outcome → Type 0
 IsProvedIfOptimal batch outcome = IfOptimal outcome.mark (λ cover measure. IsProved batch outcome)
 
 -- a yes meets each condition, and a no names the first that is not met
-abbrev pub Says : Batch → Outcome → Judgement → Type 0
+abbrev pub Says : Batch → Outcome → Verdict → Type 0
 Says batch outcome judgement =
     OnYes judgement (All (Meets batch outcome) conditions) × IfNo judgement (IsFirstUnmet batch outcome)
 

@@ -15,10 +15,10 @@ use Rattle.cert_check.specs.declared.measures.Weighted.{Weighted}
 use Rattle.cert_check.specs.declared.outcome.Cover.TheVariants.{Line}
 use Rattle.cert_check.specs.declared.outcome.Mark.{Mark}
 use Rattle.cert_check.specs.declared.outcome.Mark.TheVariants.{Optimal, Budget}
-use Rattle.cert_check.specs.declared.outcome.No.TheVariants as no
+use Rattle.cert_check.specs.declared.outcome.FailedCondition.TheVariants as no
 use Rattle.cert_check.specs.declared.outcome.Outcome.{Outcome}
-use Rattle.cert_check.specs.declared.outcome.Judgement.{Judgement}
-use Rattle.cert_check.specs.declared.outcome.Judgement.TheVariants.{Yes, No}
+use Rattle.cert_check.specs.declared.outcome.Verdict.{Verdict}
+use Rattle.cert_check.specs.declared.outcome.Verdict.TheVariants.{Yes, No}
 use Rattle.cert_check.specs.Events.{verdict_of}
 
 abbrev pub batch : Batch
@@ -54,12 +54,12 @@ outcome fills surplus mark = record {
 }
 
 -- its judgement for the butterfly
-abbrev pub judged : List Fraction → Fraction → Mark → Judgement
+abbrev pub judged : List Fraction → Fraction → Mark → Verdict
 judged fills surplus mark = verdict_of limit batch (outcome fills surplus mark)
 
 -- the judgement of all three orders of the spread filled, where the bundle has this count of the
 -- call 12
-abbrev pub judged_spread : ℤ → Mark → Judgement
+abbrev pub judged_spread : ℤ → Mark → Verdict
 judged_spread count mark =
     let one = whole (pos 1) in
     verdict_of limit (record { underlyings = 1; orders = covered_spread count }) (outcome (one ∷ one ∷ one ∷ []) one mark)

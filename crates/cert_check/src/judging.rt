@@ -16,7 +16,7 @@ ghost use Rattle.cert_check.specs.Shape.{IsMarkOn};
 use crate::checks::{bound_holds, measure_holds, surplus_holds};
 use crate::cover::mark_covers;
 use crate::measures::Measure;
-use crate::outcome::{Judgement, Mark, No, Outcome};
+use crate::outcome::{Verdict, Mark, FailedCondition, Outcome};
 use crate::shape::{are_fills, has_shape};
 use exact_num::Wide;
 use form::Batch;
@@ -30,7 +30,7 @@ use frac::Frac128;
 /// that its condition does not hold, and that each before it does. The batch is on 1 to 8
 /// underlyings, and there are as many signs as the orders have legs, at most 1,024; what they held
 /// does not matter. Takes no memory.
-pub fn verdict(batch: &Batch, outcome: &Outcome, signs: &mut [i8]) -> Judgement
+pub fn verdict(batch: &Batch, outcome: &Outcome, signs: &mut [i8]) -> Verdict
     requires underlyings { (1 ≤ batch.now.underlyings) × (batch.now.underlyings ≤ 8) }
     requires signs { length signs.old ≡ leg_count batch.now.orders }
     requires few { leg_count batch.now.orders ≤ MAX_SIGNS }
@@ -46,16 +46,16 @@ pub fn verdict(batch: &Batch, outcome: &Outcome, signs: &mut [i8]) -> Judgement
     ensures proved { OnYes result (IsProvedIfOptimal batch.now outcome.now) }
 {
     if !has_shape(batch, outcome) {
-        return Judgement::No(No::BatchShape);
+        return Verdict::No(FailedCondition::BatchShape);
     }
     if !are_fills(batch.orders.as_slice(), outcome.fills.as_slice()) {
-        return Judgement::No(No::Fill);
+        return Verdict::No(FailedCondition::Fill);
     }
     judge_cover(batch, outcome, signs)
 }
 
 // Whether the cover holds, and then what the mark asks.
-fn judge_cover(batch: &Batch, outcome: &Outcome, signs: &mut [i8]) -> Judgement
+fn judge_cover(batch: &Batch, outcome: &Outcome, signs: &mut [i8]) -> Verdict
     requires forms { HasItsForms batch.now }
     requires fills { length outcome.now.fills ≡ length batch.now.orders }
     requires mark { IsMarkOn batch.now.underlyings outcome.now.mark }
@@ -64,8 +64,8 @@ fn judge_cover(batch: &Batch, outcome: &Outcome, signs: &mut [i8]) -> Judgement
 {
     match is_covered(batch, outcome, signs) {
         Ok(true) => judge_mark(batch, &outcome.claim.surplus, &outcome.mark),
-        Ok(false) => Judgement::No(No::Cover),
-        Err(wide) => Judgement::Wide(wide),
+        Ok(false) => Verdict::No(FailedCondition::Cover),
+        Err(wide) => Verdict::Wide(wide),
     }
 }
 
@@ -85,39 +85,39 @@ fn is_covered(batch: &Batch, outcome: &Outcome, signs: &mut [i8]) -> Result<bool
 }
 
 // With the mark optimal, whether the measure proves the surplus.
-fn judge_mark(batch: &Batch, surplus: &Frac128, mark: &Mark) -> Judgement
+fn judge_mark(batch: &Batch, surplus: &Frac128, mark: &Mark) -> Verdict
     requires forms { HasItsForms batch.now }
     requires mark { IsMarkOn batch.now.underlyings mark.now }
     ensures { result ≡ judge_mark limit batch.now.orders (fraction_of surplus.now) mark.now }
 {
     match mark {
         Mark::Optimal { measure, .. } => judge_measure(batch, surplus, measure),
-        Mark::Wide(_) | Mark::Budget => Judgement::Yes,
+        Mark::Wide(_) | Mark::Budget => Verdict::Yes,
     }
 }
 
 // Whether the measure is one, and its bound the surplus.
-fn judge_measure(batch: &Batch, surplus: &Frac128, measure: &Measure) -> Judgement
+fn judge_measure(batch: &Batch, surplus: &Frac128, measure: &Measure) -> Verdict
     requires forms { HasItsForms batch.now }
     requires states { IsOnStates batch.now.underlyings measure.now }
     ensures { result ≡ judge_measure limit batch.now.orders (fraction_of surplus.now) measure.now }
 {
     match measure_holds(measure) {
         Ok(true) => judge_bound(batch, surplus, measure),
-        Ok(false) => Judgement::No(No::Measure),
-        Err(wide) => Judgement::Wide(wide),
+        Ok(false) => Verdict::No(FailedCondition::Measure),
+        Err(wide) => Verdict::Wide(wide),
     }
 }
 
 // Whether the bound of the measure is the surplus.
-fn judge_bound(batch: &Batch, surplus: &Frac128, measure: &Measure) -> Judgement
+fn judge_bound(batch: &Batch, surplus: &Frac128, measure: &Measure) -> Verdict
     requires forms { HasItsForms batch.now }
     requires states { IsOnStates batch.now.underlyings measure.now }
     ensures { result ≡ judge_bound limit batch.now.orders (fraction_of surplus.now) measure.now }
 {
     match bound_holds(batch, measure, surplus) {
-        Ok(true) => Judgement::Yes,
-        Ok(false) => Judgement::No(No::Bound),
-        Err(wide) => Judgement::Wide(wide),
+        Ok(true) => Verdict::Yes,
+        Ok(false) => Verdict::No(FailedCondition::Bound),
+        Err(wide) => Verdict::Wide(wide),
     }
 }

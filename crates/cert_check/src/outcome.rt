@@ -59,7 +59,7 @@ impl Drop for Outcome {
 
 /// The condition that fails.
 #[derive(Clone, Copy, Debug, PartialEq, Eq)]
-pub enum No {
+pub enum FailedCondition {
     BatchShape,
     Fill,
     Cover,
@@ -69,8 +69,8 @@ pub enum No {
 
 /// The judgement of an outcome.
 #[derive(Clone, Copy, Debug, PartialEq, Eq)]
-pub enum Judgement {
+pub enum Verdict {
     Yes,
-    No(No),
+    No(FailedCondition),
     Wide(Wide),
 }

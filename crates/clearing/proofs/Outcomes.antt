@@ -25,8 +25,8 @@ use Rattle.cert_check.specs.Points.{point_of}
 use Rattle.cert_check.specs.declared.outcome.Cover.{Cover}
 use Rattle.cert_check.specs.declared.outcome.Mark.{Mark}
 use Rattle.cert_check.specs.declared.outcome.Mark.TheVariants.{Wide, Budget}
-use Rattle.cert_check.specs.declared.outcome.No.{No}
-use Rattle.cert_check.specs.declared.outcome.No.TheVariants as no
+use Rattle.cert_check.specs.declared.outcome.FailedCondition.{FailedCondition}
+use Rattle.cert_check.specs.declared.outcome.FailedCondition.TheVariants as no
 use Rattle.cert_check.specs.declared.outcome.Outcome.{Outcome}
 use Rattle.cert_check.specs.Conditions.{IfOptimal, OwesNothing, IsEnough, Meets, conditions}
 use Rattle.cert_check.proofs.Certified.{conditions_cover, conditions_measure, conditions_prove}
@@ -80,7 +80,7 @@ is_fallback batch mark units within =
 
 fallback_meets : (batch : Batch) (outcome : Outcome) → IsWithinLimits batch → IsFallback batch.orders outcome → ((P : Cover → Measure → Type 0) → IfOptimal outcome.mark P)
     → (OwesNothing batch.orders (map fraction_of outcome.fills) (fraction_of outcome.claim.liability) → IsEnough batch.underlyings batch.orders (map fraction_of outcome.fills) (fraction_of outcome.claim.liability) outcome.mark)
-    → (condition : No) → Meets batch outcome condition
+    → (condition : FailedCondition) → Meets batch outcome condition
 fallback_meets batch outcome within f unmarked enough no.BatchShape =
     let are = fills_are batch.orders (match_by_bundle batch.orders) (match_is_within batch.orders) in
     record {
@@ -105,11 +105,11 @@ fallback_meets batch outcome within f unmarked enough no.Cover =
 fallback_meets batch outcome within f unmarked enough no.Measure = unmarked _
 fallback_meets batch outcome within f unmarked enough no.Bound = unmarked _
 
-pub wide_meets : (batch : Batch) (w : Misfit) (units : ℕ) → IsWithinLimits batch → (condition : No) → Meets batch (fallback batch.orders (Wide w) units) condition
+pub wide_meets : (batch : Batch) (w : Misfit) (units : ℕ) → IsWithinLimits batch → (condition : FailedCondition) → Meets batch (fallback batch.orders (Wide w) units) condition
 unfolding fallback
 wide_meets batch w units within = fallback_meets batch (fallback batch.orders (Wide w) units) within (is_fallback batch (Wide w) units within) (λ P. tt) (λ owes. owes)
 
-pub budget_meets : (batch : Batch) (units : ℕ) → IsWithinLimits batch → (condition : No) → Meets batch (fallback batch.orders Budget units) condition
+pub budget_meets : (batch : Batch) (units : ℕ) → IsWithinLimits batch → (condition : FailedCondition) → Meets batch (fallback batch.orders Budget units) condition
 unfolding fallback
 budget_meets batch units within = fallback_meets batch (fallback batch.orders Budget units) within (is_fallback batch Budget units within) (λ P. tt) (λ owes. owes)
 
@@ -173,7 +173,7 @@ optimal_outcome-not_refused batch r (by_tree tree) units within greatest test =
 abbrev MeetsAll : Batch → Outcome → Type 0
 MeetsAll batch outcome = All (Meets batch outcome) conditions
 
-all_met : (batch : Batch) (outcome : Outcome) → ((condition : No) → Meets batch outcome condition) → MeetsAll batch outcome
+all_met : (batch : Batch) (outcome : Outcome) → ((condition : FailedCondition) → Meets batch outcome condition) → MeetsAll batch outcome
 all_met batch outcome each k d lt = each (get_or conditions k d)
 
 at_cleared : (batch : Batch) (units spent : ℕ) (s : CoveredReading) (test : Bool) → has_values s ≡ test → IsWithinLimits batch → IsGreatestBy batch.underlyings batch.orders s

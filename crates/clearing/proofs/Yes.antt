@@ -11,10 +11,10 @@ use Rattle.form.specs.declared.orders.Batch.{Batch}
 use Rattle.form.specs.Limits.{IsOrderWithin, IsWithinLimits}
 use Rattle.exact_num.specs.Steps.{and_then}
 use Rattle.cert_check.specs.declared.outcome.Mark.TheVariants.{Wide, Budget}
-use Rattle.cert_check.specs.declared.outcome.No.{No}
-use Rattle.cert_check.specs.declared.outcome.No.TheVariants as no
+use Rattle.cert_check.specs.declared.outcome.FailedCondition.{FailedCondition}
+use Rattle.cert_check.specs.declared.outcome.FailedCondition.TheVariants as no
 use Rattle.cert_check.specs.declared.outcome.Outcome.{Outcome}
-use Rattle.cert_check.specs.declared.outcome.Judgement.TheVariants.{Yes, No as Refused}
+use Rattle.cert_check.specs.declared.outcome.Verdict.TheVariants.{Yes, No as Refused}
 use Rattle.cert_check.specs.Conditions.{Meets}
 use Rattle.cert_check.specs.Cover.{mark_covers, fallback_holds}
 use Rattle.cert_check.specs.Tests.{surplus_holds}
@@ -40,7 +40,7 @@ optimal_outcome-yes batch (r, cover) units spent within test run =
 
 -- ---- the fallback
 -- what meets each condition is not refused
-not_refused : (batch : Batch) (outcome : Outcome) → ((condition : No) → Meets batch outcome condition) → (k : No) → verdict_of largest batch outcome ≡ Refused k → ⊥
+not_refused : (batch : Batch) (outcome : Outcome) → ((condition : FailedCondition) → Meets batch outcome condition) → (k : FailedCondition) → verdict_of largest batch outcome ≡ Refused k → ⊥
 not_refused batch outcome meets k e = (said batch outcome (Refused k) e).1.unmet (meets k)
 
 both_fit : (first second : Result Bool Misfit) (w : Misfit) → (first ≡ Err w → ⊥) → (second ≡ Err w → ⊥) → and_then first second ≡ Err w → ⊥

@@ -7,7 +7,7 @@ use Rattle.form.specs.declared.orders.Batch.{Batch}
 use Rattle.clearing_model.specs.Certificate.{AreFractionFills}
 use Rattle.form.specs.Limits.{IsWithinLimits}
 use Rattle.cert_check.specs.declared.outcome.Outcome.{Outcome}
-use Rattle.cert_check.specs.declared.outcome.Judgement.TheVariants.{Yes}
+use Rattle.cert_check.specs.declared.outcome.Verdict.TheVariants.{Yes}
 use Rattle.cert_check.specs.Conditions.{IfOptimal, Meets, conditions}
 use Rattle.cert_check.specs.Events.{verdict_of}
 use Rattle.cert_check.specs.Laws.{IsCovered, IsMeasured, IsProved}

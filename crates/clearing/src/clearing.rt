@@ -6,7 +6,7 @@ ghost use Rattle.frac.specs.Value.{fraction_of};
 ghost use Rattle.clearing_model.specs.Certificate.{AreFractionFills};
 ghost use Rattle.form.specs.declared.limits.TheConstants.{MAX_BUDGET};
 ghost use Rattle.form.specs.Limits.{IsWithinLimits};
-ghost use Rattle.cert_check.specs.declared.outcome.Judgement.TheVariants.{Yes};
+ghost use Rattle.cert_check.specs.declared.outcome.Verdict.TheVariants.{Yes};
 ghost use Rattle.cert_check.specs.Conditions.{IfOptimal};
 ghost use Rattle.cert_check.specs.Events.{verdict_of};
 ghost use Rattle.cert_check.specs.Laws.{IsCovered, IsMeasured, IsProved};

@@ -9,7 +9,7 @@ use Rattle.clearing_model.specs.Clearing.{AreOn}
 use Rattle.line_cover.specs.Breakpoints.{later_states}
 use Rattle.cert_check.specs.declared.measures.Measure.{Measure}
 use Rattle.cert_check.specs.declared.outcome.Cover.{Cover}
-use Rattle.cert_check.specs.declared.outcome.Judgement.TheVariants.{Yes}
+use Rattle.cert_check.specs.declared.outcome.Verdict.TheVariants.{Yes}
 use Rattle.cert_check.specs.declared.outcome.Outcome.{Outcome}
 use Rattle.cert_check.specs.Events.{verdict_of}
 use Rattle.master_program.specs.Reading.{Reading}

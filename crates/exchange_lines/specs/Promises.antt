@@ -3,7 +3,7 @@ use Rattle.std.specs.Prelude.{◌≡◌, List, [], ◌∷◌, ◌++◌, ℕ, map
 use Rattle.std.specs.List.{All}
 use Rattle.frac.specs.Range.{limit}
 use Rattle.form.specs.declared.orders.Batch.{Batch}
-use Rattle.cert_check.specs.declared.outcome.Judgement.TheVariants.{Yes}
+use Rattle.cert_check.specs.declared.outcome.Verdict.TheVariants.{Yes}
 use Rattle.cert_check.specs.declared.outcome.Outcome.{Outcome}
 use Rattle.cert_check.specs.Events.{verdict_of}
 use Rattle.cert_check.specs.Laws.{IsCovered}

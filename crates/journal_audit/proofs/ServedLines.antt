@@ -3,8 +3,8 @@ use Rattle.std.proofs.Common.{◌≡◌, ℕ, List, Bool, true, false, Option, S
 use Rattle.frac.specs.Range.{limit}
 use Rattle.frac.specs.Value.{fraction_of}
 use Rattle.form.specs.declared.orders.Batch.{Batch}
-use Rattle.cert_check.specs.declared.outcome.Judgement.{Judgement}
-use Rattle.cert_check.specs.declared.outcome.Judgement.TheVariants as judgement
+use Rattle.cert_check.specs.declared.outcome.Verdict.{Verdict}
+use Rattle.cert_check.specs.declared.outcome.Verdict.TheVariants as judgement
 use Rattle.proposal_check.specs.Proposals.{bounded_verdict_of}
 use Rattle.proposal_check.proofs.Proposals.{bounded_shows}
 use Rattle.serde_json.specs.Data.{Data}
@@ -81,7 +81,7 @@ run_sound text f e = run_says text f (subst (FindingSays text) e (line_says text
 pub read_value : {A : Type 0} (tests : Tests A) (text : List ℕ) (d : Data) → json_of text ≡ Some d → read_by tests text ≡ value_by tests text d
 read_value tests text d e = ap (json_by tests text) e
 
-judged : (text : List ℕ) (line number market : ℕ) (batch : Batch) (outcome : BoundedOutcome) (j : Judgement) → j ≡ bounded_verdict_of limit batch outcome.proposal (fraction_of outcome.bound)
+judged : (text : List ℕ) (line number market : ℕ) (batch : Batch) (outcome : BoundedOutcome) (j : Verdict) → j ≡ bounded_verdict_of limit batch outcome.proposal (fraction_of outcome.bound)
     → IsProposalLineOf text line (BoundedReply number market batch outcome) → IsSoundAs text (bounded_finding j)
 judged text line number market batch outcome judgement.Yes e h =
     let shows = (bounded_shows batch outcome.proposal outcome.bound judgement.Yes e).0 in

@@ -4,7 +4,7 @@ use Rattle.frac.specs.Range.{limit}
 use Rattle.frac.specs.Value.{fraction_of}
 use Rattle.form.specs.Between.{Between}
 use Rattle.form.specs.declared.orders.Batch.{Batch}
-use Rattle.cert_check.specs.declared.outcome.Judgement.TheVariants as judgement
+use Rattle.cert_check.specs.declared.outcome.Verdict.TheVariants as judgement
 use Rattle.cert_check.specs.Laws.{IsCovered}
 use Rattle.proposal_check.specs.ProposalLaws.{BoundSurplus, HasBound}
 use Rattle.proposal_check.specs.Proposals.{as_outcome, bounded_verdict_of}

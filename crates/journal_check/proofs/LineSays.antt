@@ -2,10 +2,10 @@
 use Rattle.std.proofs.Common.{◌≡◌, ℕ, List, Ok, Err, refl}
 use Rattle.frac.specs.Range.{limit}
 use Rattle.form.specs.declared.orders.Batch.{Batch}
-use Rattle.cert_check.specs.declared.outcome.No.{No}
-use Rattle.cert_check.specs.declared.outcome.No.TheVariants as no
-use Rattle.cert_check.specs.declared.outcome.Judgement.{Judgement}
-use Rattle.cert_check.specs.declared.outcome.Judgement.TheVariants as judgement
+use Rattle.cert_check.specs.declared.outcome.FailedCondition.{FailedCondition}
+use Rattle.cert_check.specs.declared.outcome.FailedCondition.TheVariants as no
+use Rattle.cert_check.specs.declared.outcome.Verdict.{Verdict}
+use Rattle.cert_check.specs.declared.outcome.Verdict.TheVariants as judgement
 use Rattle.cert_check.specs.declared.outcome.Outcome.{Outcome}
 use Rattle.cert_check.specs.Conditions.{IsFirstUnmet}
 use Rattle.cert_check.specs.Events.{verdict_of}
@@ -57,7 +57,7 @@ cleared_line : {P : Batch → Outcome → Type 0} (text : List ℕ) (line number
 cleared_line text line number market batch outcome h has =
     record { line = line; number = number; market = market; batch = batch; outcome = outcome; is_line = h; has = has }
 
-unmet : (text : List ℕ) (line number market : ℕ) (batch : Batch) (outcome : Outcome) (condition : No) → IsLineOf text line (ClearedReply number market batch outcome)
+unmet : (text : List ℕ) (line number market : ℕ) (batch : Batch) (outcome : Outcome) (condition : FailedCondition) → IsLineOf text line (ClearedReply number market batch outcome)
     → IsFirstUnmet batch outcome condition → HasReason text (no_reason condition)
 unmet text line number market batch outcome no.BatchShape h f = cleared_line text line number market batch outcome h f
 unmet text line number market batch outcome no.Fill h f = cleared_line text line number market batch outcome h f
@@ -65,7 +65,7 @@ unmet text line number market batch outcome no.Cover h f = cleared_line text lin
 unmet text line number market batch outcome no.Measure h f = cleared_line text line number market batch outcome h f
 unmet text line number market batch outcome no.Bound h f = cleared_line text line number market batch outcome h f
 
-judged : (text : List ℕ) (line number market : ℕ) (batch : Batch) (outcome : Outcome) (j : Judgement) → IsLineOf text line (ClearedReply number market batch outcome)
+judged : (text : List ℕ) (line number market : ℕ) (batch : Batch) (outcome : Outcome) (j : Verdict) → IsLineOf text line (ClearedReply number market batch outcome)
     → verdict_of limit batch outcome ≡ j → FindingSays text (cleared_finding j outcome.mark)
 judged text line number market batch outcome judgement.Yes h e =
     counted text (Cleared (is_marked outcome.mark)) line (ClearedReply number market batch outcome) h

@@ -3,10 +3,10 @@ use Rattle.std.specs.Prelude.{ℕ, List, Bool, true, false, Option, Some, None, 
 use Rattle.frac.specs.Range.{limit}
 use Rattle.cert_check.specs.declared.outcome.Mark.{Mark}
 use Rattle.cert_check.specs.declared.outcome.Mark.TheVariants as mark
-use Rattle.cert_check.specs.declared.outcome.No.{No}
-use Rattle.cert_check.specs.declared.outcome.No.TheVariants as no
-use Rattle.cert_check.specs.declared.outcome.Judgement.{Judgement}
-use Rattle.cert_check.specs.declared.outcome.Judgement.TheVariants as judgement
+use Rattle.cert_check.specs.declared.outcome.FailedCondition.{FailedCondition}
+use Rattle.cert_check.specs.declared.outcome.FailedCondition.TheVariants as no
+use Rattle.cert_check.specs.declared.outcome.Verdict.{Verdict}
+use Rattle.cert_check.specs.declared.outcome.Verdict.TheVariants as judgement
 use Rattle.reply_print.specs.declared.replies.Reply.{Reply}
 use Rattle.reply_print.specs.declared.replies.Reply.TheVariants as reply
 use Rattle.reply_text.specs.declared.faults.LineFault.{LineFault}
@@ -28,7 +28,7 @@ fault_finding fault.Spelling = Faulty Spelling
 fault_finding fault.Memory = Plain
 
 -- a condition of the verdict that is not met
-abbrev pub no_reason : No → Reason
+abbrev pub no_reason : FailedCondition → Reason
 no_reason no.BatchShape = BatchShape
 no_reason no.Fill = Fill
 no_reason no.Cover = Cover
@@ -41,13 +41,13 @@ is_marked (mark.Wide w) = false
 is_marked mark.Budget = false
 
 -- a cleared batch, by the verdict on it
-abbrev pub cleared_finding : Judgement → Mark → Finding
+abbrev pub cleared_finding : Verdict → Mark → Finding
 cleared_finding judgement.Yes m = Cleared (is_marked m)
 cleared_finding (judgement.No condition) m = Faulty (no_reason condition)
 cleared_finding (judgement.Wide w) m = Faulty Wide
 
 -- one that is marked bounded, by the judgement of its proposal and bound
-abbrev pub bounded_finding : Judgement → Finding
+abbrev pub bounded_finding : Verdict → Finding
 bounded_finding judgement.Yes = Bounded
 bounded_finding (judgement.No condition) = Faulty (no_reason condition)
 bounded_finding (judgement.Wide w) = Faulty Wide

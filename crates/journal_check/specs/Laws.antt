@@ -4,9 +4,9 @@ use Rattle.std.specs.List.{All}
 use Rattle.frac.specs.Range.{limit}
 use Rattle.form.specs.declared.orders.Batch.{Batch}
 use Rattle.exact_num.specs.declared.misfit.Wide.{Wide as Misfit}
-use Rattle.cert_check.specs.declared.outcome.No.{No}
-use Rattle.cert_check.specs.declared.outcome.No.TheVariants as no
-use Rattle.cert_check.specs.declared.outcome.Judgement.TheVariants as judgement
+use Rattle.cert_check.specs.declared.outcome.FailedCondition.{FailedCondition}
+use Rattle.cert_check.specs.declared.outcome.FailedCondition.TheVariants as no
+use Rattle.cert_check.specs.declared.outcome.Verdict.TheVariants as judgement
 use Rattle.cert_check.specs.declared.outcome.Outcome.{Outcome}
 use Rattle.cert_check.specs.Conditions.{IsFirstUnmet}
 use Rattle.cert_check.specs.Events.{verdict_of}
@@ -101,7 +101,7 @@ pub record IsClearedLine (text : List ℕ) (P : Batch → Outcome → Type 0) : 
   pub has : P batch outcome
 
 -- the first condition that is not met is this one
-abbrev pub IsUnmet : List ℕ → No → Type 0
+abbrev pub IsUnmet : List ℕ → FailedCondition → Type 0
 IsUnmet text condition = IsClearedLine text (λ batch outcome. IsFirstUnmet batch outcome condition)
 
 -- the line fails the test first

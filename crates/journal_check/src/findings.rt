@@ -9,7 +9,7 @@ ghost use Rattle.proposal_check.specs.Proposals.{bounded_verdict_of};
 ghost use Rattle.sign_tree.specs.Legs.{leg_count};
 
 use crate::Reason;
-use cert_check::{Judgement, Mark, No, Outcome, verdict};
+use cert_check::{Verdict, Mark, FailedCondition, Outcome, verdict};
 use form::{Batch, Order};
 use frac::Frac128;
 use proposal_check::{Proposal, bounded_verdict};
@@ -30,15 +30,15 @@ pub enum Finding {
 }
 
 // The condition that is not met, as a reason.
-fn no_reason(no: No) -> Reason
+fn no_reason(no: FailedCondition) -> Reason
     ensures { result ≡ reason_is no }
 {
     match no {
-        No::BatchShape => Reason::BatchShape,
-        No::Fill => Reason::Fill,
-        No::Cover => Reason::Cover,
-        No::Measure => Reason::Measure,
-        No::Bound => Reason::Bound,
+        FailedCondition::BatchShape => Reason::BatchShape,
+        FailedCondition::Fill => Reason::Fill,
+        FailedCondition::Cover => Reason::Cover,
+        FailedCondition::Measure => Reason::Measure,
+        FailedCondition::Bound => Reason::Bound,
     }
 }
 
@@ -51,25 +51,25 @@ fn is_marked(mark: &Mark) -> bool
     }
 }
 
-fn judgement_finding(judgement: Judgement, mark: &Mark) -> Finding
+fn judgement_finding(judgement: Verdict, mark: &Mark) -> Finding
     ensures { result ≡ cleared_is judgement mark.now }
 {
     match judgement {
-        Judgement::Yes => Finding::Cleared {
+        Verdict::Yes => Finding::Cleared {
             optimal: is_marked(mark),
         },
-        Judgement::No(no) => Finding::Faulty(no_reason(no)),
-        Judgement::Wide(_) => Finding::Faulty(Reason::Wide),
+        Verdict::No(no) => Finding::Faulty(no_reason(no)),
+        Verdict::Wide(_) => Finding::Faulty(Reason::Wide),
     }
 }
 
-fn bounded_judgement(judgement: Judgement) -> Finding
+fn bounded_judgement(judgement: Verdict) -> Finding
     ensures { result ≡ bounded_is judgement }
 {
     match judgement {
-        Judgement::Yes => Finding::Bounded,
-        Judgement::No(no) => Finding::Faulty(no_reason(no)),
-        Judgement::Wide(_) => Finding::Faulty(Reason::Wide),
+        Verdict::Yes => Finding::Bounded,
+        Verdict::No(no) => Finding::Faulty(no_reason(no)),
+        Verdict::Wide(_) => Finding::Faulty(Reason::Wide),
     }
 }
 

@@ -12,10 +12,10 @@ use Rattle.cert_check.specs.Points.{point_of}
 use Rattle.cert_check.specs.declared.outcome.Cover.{Cover}
 use Rattle.cert_check.specs.declared.outcome.Cover.TheVariants.{Line}
 use Rattle.cert_check.specs.declared.outcome.Mark.{Mark}
-use Rattle.cert_check.specs.declared.outcome.No.{No}
-use Rattle.cert_check.specs.declared.outcome.No.TheVariants as no
+use Rattle.cert_check.specs.declared.outcome.FailedCondition.{FailedCondition}
+use Rattle.cert_check.specs.declared.outcome.FailedCondition.TheVariants as no
 use Rattle.cert_check.specs.declared.outcome.Outcome.{Outcome}
-use Rattle.cert_check.specs.declared.outcome.Judgement.TheVariants.{No as Refused}
+use Rattle.cert_check.specs.declared.outcome.Verdict.TheVariants.{No as Refused}
 use Rattle.cert_check.specs.Conditions.{IfOptimal, IsCoverOn, Closes, IsEnough, Meets, conditions}
 use Rattle.cert_check.specs.Laws.{Says}
 use Rattle.cert_check.proofs.Decided.{verdicts_decide}
@@ -36,7 +36,7 @@ record IsSound (n : ℕ) (batch : Batch) (cover : Cover) (r : Reading) : Type 0 
 abbrev AreStates : ℕ → List Point → Type 0
 AreStates n points = All (λ (point : Point). IsState n point.0) points
 
-met : (batch : Batch) (outcome : Outcome) (cover : Cover) (measure : Measure) (r : Reading) → IsSound batch.underlyings batch cover r → IsOutcomeOf r outcome cover measure → (condition : No) → Meets batch outcome condition
+met : (batch : Batch) (outcome : Outcome) (cover : Cover) (measure : Measure) (r : Reading) → IsSound batch.underlyings batch cover r → IsOutcomeOf r outcome cover measure → (condition : FailedCondition) → Meets batch outcome condition
 met batch outcome cover measure r s o no.BatchShape =
     let n = batch.underlyings in
     record {
@@ -63,7 +63,7 @@ met batch outcome cover measure r s o no.Bound =
     (subst (λ (points : List Point). MeasureProves batch.orders points (fraction_of outcome.claim.surplus)) (sym o.points)
     (subst (λ (S : Fraction). MeasureProves batch.orders r.measure S) (sym o.surplus) s.proves))
 
-not_refused : (batch : Batch) (outcome : Outcome) → ((condition : No) → Meets batch outcome condition) → IsNotRefused batch outcome
+not_refused : (batch : Batch) (outcome : Outcome) → ((condition : FailedCondition) → Meets batch outcome condition) → IsNotRefused batch outcome
 not_refused batch outcome h =
     record {
       meets = λ k d low. h (get_or conditions k d);

@@ -11,23 +11,23 @@ use Rattle.cert_check.specs.declared.measures.Measure.{Measure}
 use Rattle.cert_check.specs.Points.{point_of}
 use Rattle.cert_check.specs.declared.outcome.Cover.{Cover}
 use Rattle.cert_check.specs.declared.outcome.Mark.TheVariants.{Optimal}
-use Rattle.cert_check.specs.declared.outcome.No.{No}
-use Rattle.cert_check.specs.declared.outcome.No.TheVariants as no
+use Rattle.cert_check.specs.declared.outcome.FailedCondition.{FailedCondition}
+use Rattle.cert_check.specs.declared.outcome.FailedCondition.TheVariants as no
 use Rattle.cert_check.specs.declared.outcome.Outcome.{Outcome}
-use Rattle.cert_check.specs.declared.outcome.Judgement.{Judgement}
-use Rattle.cert_check.specs.declared.outcome.Judgement.TheVariants.{Yes, No as Refused, Wide as TooWide}
+use Rattle.cert_check.specs.declared.outcome.Verdict.{Verdict}
+use Rattle.cert_check.specs.declared.outcome.Verdict.TheVariants.{Yes, No as Refused, Wide as TooWide}
 use Rattle.cert_check.specs.Tests.{surplus_holds, cover_holds, measure_holds, bound_holds}
 use Rattle.cert_check.specs.Events.{check, verdict_of}
 use Rattle.cert_check.specs.Shape.{has_shape, are_fills}
 use Rattle.master_program.specs.Reading.{Reading, reading_with}
 use Rattle.master_program.specs.Verdict.{sums_on, sums_of, SumsDecide, SumsThatFitPass}
 
-abbrev judgement_of : (shape fills : Bool) (S C M B : Result Bool Wide) → Judgement
+abbrev judgement_of : (shape fills : Bool) (S C M B : Result Bool Wide) → Verdict
 judgement_of shape fills S C M B =
     check no.BatchShape (Ok shape) (check no.Fill (Ok fills) (check no.Cover (and_then S C) (check no.Measure M (check no.Bound B Yes))))
 
 -- where no condition fails, the sums one after another decide
-decided : (shape fills : Bool) (S C M B : Result Bool Wide) → ((condition : No) → judgement_of shape fills S C M B ≡ Refused condition → ⊥)
+decided : (shape fills : Bool) (S C M B : Result Bool Wide) → ((condition : FailedCondition) → judgement_of shape fills S C M B ≡ Refused condition → ⊥)
     → and_then S (and_then C (and_then M B)) ≡ sums_of (judgement_of shape fills S C M B)
 decided false fills S C M B h = absurd (h no.BatchShape refl)
 decided true false S C M B h = absurd (h no.Fill refl)
@@ -47,7 +47,7 @@ optimal fills liability surplus cover measure units =
     record { fills = fills; claim = record { liability = liability; surplus = surplus }; mark = Optimal cover measure; units = units }
 
 sums_are : (batch : Batch) (fills : List Frac128) (L S : Frac128) (cover : Cover) (measure : Measure) (units : ℕ)
-    → ((condition : No) → verdict_of limit batch (optimal fills L S cover measure units) ≡ Refused condition → ⊥)
+    → ((condition : FailedCondition) → verdict_of limit batch (optimal fills L S cover measure units) ≡ Refused condition → ⊥)
     → sums_on batch (reading_with (map fraction_of fills) (fraction_of S) (map point_of measure.points) (fraction_of L)) cover ≡ sums_of (verdict_of limit batch (optimal fills L S cover measure units))
 sums_are batch fills L S cover measure units h =
     let fs : List Fraction = map fraction_of fills in
@@ -65,7 +65,7 @@ sums_decide batch outcome cover measure r o refused =
     ∙ sums_are batch outcome.fills outcome.claim.liability outcome.claim.surplus cover measure outcome.units (λ condition e. refused.not_no condition (ap (verdict_of limit batch) whole ∙ e))
     ∙ ap (λ (x : Outcome). sums_of (verdict_of limit batch x)) (sym whole)
 
-yes_where_fit : (judgement : Judgement) (holds : Bool) → ((condition : No) → judgement ≡ Refused condition → ⊥) → Ok holds ≡ sums_of judgement → judgement ≡ Yes
+yes_where_fit : (judgement : Verdict) (holds : Bool) → ((condition : FailedCondition) → judgement ≡ Refused condition → ⊥) → Ok holds ≡ sums_of judgement → judgement ≡ Yes
 yes_where_fit Yes holds h e = refl
 yes_where_fit (Refused condition) holds h e = absurd (h condition refl)
 yes_where_fit (TooWide w) holds h e = cc

@@ -14,10 +14,10 @@ use Rattle.cert_check.specs.Points.{point_of}
 use Rattle.cert_check.specs.declared.outcome.Cover.{Cover}
 use Rattle.cert_check.specs.declared.outcome.Cover.TheVariants.{Line}
 use Rattle.cert_check.specs.declared.outcome.Mark.TheVariants.{Optimal}
-use Rattle.cert_check.specs.declared.outcome.No.{No}
+use Rattle.cert_check.specs.declared.outcome.FailedCondition.{FailedCondition}
 use Rattle.cert_check.specs.declared.outcome.Outcome.{Outcome}
-use Rattle.cert_check.specs.declared.outcome.Judgement.{Judgement}
-use Rattle.cert_check.specs.declared.outcome.Judgement.TheVariants.{Yes, No as Refused, Wide as TooWide}
+use Rattle.cert_check.specs.declared.outcome.Verdict.{Verdict}
+use Rattle.cert_check.specs.declared.outcome.Verdict.TheVariants.{Yes, No as Refused, Wide as TooWide}
 use Rattle.cert_check.specs.Conditions.{IsCoverOn, Closes, Meets, conditions}
 use Rattle.cert_check.specs.Tests.{surplus_holds, cover_holds, measure_holds, bound_holds}
 use Rattle.cert_check.specs.Events.{verdict_of}
@@ -35,7 +35,7 @@ pub record IsOutcomeOf (r : Reading) (outcome : Outcome) (cover : Cover) (measur
 -- each condition of the verdict is met: so it is yes, or a step of its sums does not fit
 pub record IsNotRefused (batch : Batch) (outcome : Outcome) : Type 0 where
   pub meets : All (Meets batch outcome) conditions
-  pub not_no : (condition : No) → verdict_of limit batch outcome ≡ Refused condition → ⊥
+  pub not_no : (condition : FailedCondition) → verdict_of limit batch outcome ≡ Refused condition → ⊥
 
 -- so it is where a certified reading is covered, by a line or by a tree
 abbrev pub CoveredReadingsAreNotRefused : Type 0
@@ -69,7 +69,7 @@ abbrev pub sums_on : Batch → Reading → Cover → Result Bool Wide
 sums_on batch r cover = sums_with limit batch.orders r (cover_holds limit batch.underlyings batch.orders r.fills r.liability cover)
 
 -- what a judgement says of the sums
-abbrev pub sums_of : Judgement → Result Bool Wide
+abbrev pub sums_of : Verdict → Result Bool Wide
 sums_of Yes = Ok true
 sums_of (Refused condition) = Ok false
 sums_of (TooWide w) = Err w

@@ -6,7 +6,7 @@ use Rattle.exact_num.specs.Fraction.{Fraction}
 use Rattle.frac.specs.Range.{limit}
 use Rattle.form.specs.declared.orders.Batch.{Batch}
 use Rattle.cert_check.specs.declared.outcome.Outcome.{Outcome}
-use Rattle.cert_check.specs.declared.outcome.Judgement.TheVariants.{Yes}
+use Rattle.cert_check.specs.declared.outcome.Verdict.TheVariants.{Yes}
 use Rattle.cert_check.specs.Conditions.{is_optimal_mark}
 use Rattle.cert_check.specs.Events.{verdict_of}
 use Rattle.proposal_check.specs.declared.covers.Proposal.{Proposal}

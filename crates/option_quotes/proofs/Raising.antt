@@ -23,7 +23,7 @@ use Rattle.form.proofs.MadeBundles.{legs_in-bundle_one}
 use Rattle.cert_check.specs.declared.outcome.Mark.{Mark}
 use Rattle.cert_check.specs.declared.outcome.Mark.TheVariants.{Optimal, Wide, Budget}
 use Rattle.cert_check.specs.declared.outcome.Outcome.{Outcome}
-use Rattle.cert_check.specs.declared.outcome.Judgement.TheVariants.{Yes}
+use Rattle.cert_check.specs.declared.outcome.Verdict.TheVariants.{Yes}
 use Rattle.cert_check.specs.Conditions.{IfOptimal, is_optimal_mark}
 use Rattle.cert_check.specs.Events.{verdict_of}
 use Rattle.cert_check.specs.Laws.{IsProved}

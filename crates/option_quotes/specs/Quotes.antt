@@ -9,7 +9,7 @@ use Rattle.form.specs.declared.orders.Order.{Order}
 use Rattle.form.specs.declared.orders.Batch.{Batch}
 use Rattle.form.specs.declared.limits.TheConstants.{MAX_PRICE}
 use Rattle.cert_check.specs.declared.outcome.Outcome.{Outcome}
-use Rattle.cert_check.specs.declared.outcome.Judgement.TheVariants.{Yes}
+use Rattle.cert_check.specs.declared.outcome.Verdict.TheVariants.{Yes}
 use Rattle.cert_check.specs.Events.{verdict_of}
 use Rattle.clearing.specs.Outcome.{outcome_of}
 use Rattle.option_quotes.specs.declared.quotes.Quoted.{Quoted}

@@ -20,7 +20,7 @@ use Rattle.cert_check.specs.Conditions.{LeavesSurplus}
 use Rattle.cert_check.specs.Laws.{IsCovered}
 use Rattle.cert_check.specs.Tests.{claim_holds}
 use Rattle.cert_check.specs.declared.outcome.Mark.TheVariants.{Optimal, Budget}
-use Rattle.cert_check.specs.declared.outcome.No.TheVariants as no
+use Rattle.cert_check.specs.declared.outcome.FailedCondition.TheVariants as no
 use Rattle.cert_check.proofs.Certified.{fills_cover}
 use Rattle.cert_check.proofs.Decided.{enough as checked_enough, not_enough as checked_not_enough}
 use Rattle.cert_check.proofs.Surplus.{surplus_is, surplus_is_not}

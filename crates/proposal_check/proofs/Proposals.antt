@@ -23,10 +23,10 @@ use Rattle.cert_check.specs.MeasureSums.{bound_of}
 use Rattle.cert_check.proofs.MeasureSound.{bounds_are_exact, bound_is_lowest, masses_are_exact, weights_lowest}
 use Rattle.cert_check.specs.declared.outcome.Mark.{Mark}
 use Rattle.cert_check.specs.declared.outcome.Mark.TheVariants.{Optimal, Wide as WideMark, Budget}
-use Rattle.cert_check.specs.declared.outcome.No.{No}
-use Rattle.cert_check.specs.declared.outcome.No.TheVariants as no
-use Rattle.cert_check.specs.declared.outcome.Judgement.{Judgement}
-use Rattle.cert_check.specs.declared.outcome.Judgement.TheVariants.{Yes}
+use Rattle.cert_check.specs.declared.outcome.FailedCondition.{FailedCondition}
+use Rattle.cert_check.specs.declared.outcome.FailedCondition.TheVariants as no
+use Rattle.cert_check.specs.declared.outcome.Verdict.{Verdict}
+use Rattle.cert_check.specs.declared.outcome.Verdict.TheVariants.{Yes}
 use Rattle.cert_check.specs.Conditions.{OnYes, IfNo, conditions_before, is_optimal_mark}
 use Rattle.cert_check.specs.Cover.{batch_balances, batch_marked}
 use Rattle.cert_check.specs.Events.{check, cover_condition_holds, judge_mark, judge_measure}
@@ -83,14 +83,14 @@ Says batch proposal (Ok B) = Proves batch proposal B
 Says batch proposal (Err failed) = IsUnproved batch proposal failed
 
 -- one condition and what comes after it
-require_says : (says : Result Fraction Unproved → Type 0) (k : No) (r : Result Bool Misfit) (next : Result Fraction Unproved)
+require_says : (says : Result Fraction Unproved → Type 0) (k : FailedCondition) (r : Result Bool Misfit) (next : Result Fraction Unproved)
     → (r ≡ Ok true → says next) → (r ≡ Ok false → says (Err (Fails k))) → ((w : Misfit) → says (Err (DoesNotFit w))) → says (require k r next)
 require_says says k (Ok true) next holds fails wide = holds refl
 require_says says k (Ok false) next holds fails wide = fails refl
 require_says says k (Err w) next holds fails wide = wide w
 
 -- the condition is the first that is not met
-fails_first : (batch : Batch) (proposal : Proposal) (k : No) → k ≢ no.Bound → All (Meets batch proposal) (conditions_before k) → ¬ (Meets batch proposal k) → Says batch proposal (Err (Fails k))
+fails_first : (batch : Batch) (proposal : Proposal) (k : FailedCondition) → k ≢ no.Bound → All (Meets batch proposal) (conditions_before k) → ¬ (Meets batch proposal k) → Says batch proposal (Err (Fails k))
 fails_first batch proposal k other before unmet = (other, record { before = before; unmet = unmet })
 
 shape_is_not : no.BatchShape ≢ no.Bound
@@ -174,7 +174,7 @@ from_cover batch proposal shape fills =
 
 -- ---- the steps of a bound
 -- what comes after a condition that holds
-after_required : (k : No) (r : Result Bool Misfit) (next : Result Fraction Unproved) (B : Fraction) → require k r next ≡ Ok B → (r ≡ Ok true) × (next ≡ Ok B)
+after_required : (k : FailedCondition) (r : Result Bool Misfit) (next : Result Fraction Unproved) (B : Fraction) → require k r next ≡ Ok B → (r ≡ Ok true) × (next ≡ Ok B)
 after_required k (Ok true) next B h = (refl, h)
 after_required k (Ok false) next B h = absurd (cc)
 after_required k (Err w) next B h = absurd (cc)
@@ -215,7 +215,7 @@ proved_lowest batch proposal B h =
     bound_is_lowest limit batch.orders (points_of proposal.measure) B (weights_lowest proposal.measure.points) (sum_of batch proposal B h)
 
 -- ---- the bound that is told
-abbrev pub ShowsBounded : Batch → Proposal → Fraction → Judgement → Type 0
+abbrev pub ShowsBounded : Batch → Proposal → Fraction → Verdict → Type 0
 ShowsBounded batch proposal B judgement = OnYes judgement (Proves batch proposal B) × IfNo judgement (IsFirstUnmetBounded batch proposal B)
 
 bound_shows : (batch : Batch) (proposal : Proposal) (A B : Fraction) → IsLowest B → proposal_bound limit batch proposal ≡ Ok A
@@ -233,7 +233,7 @@ bound_shows batch proposal A B low h false test = (
   ),
 )
 
-first_unmet : (batch : Batch) (proposal : Proposal) (B : Fraction) (k : No) → IsUnproved batch proposal (Fails k) → IsFirstUnmetBounded batch proposal B k
+first_unmet : (batch : Batch) (proposal : Proposal) (B : Fraction) (k : FailedCondition) → IsUnproved batch proposal (Fails k) → IsFirstUnmetBounded batch proposal B k
 first_unmet batch proposal B no.BatchShape is = is.1
 first_unmet batch proposal B no.Fill is = is.1
 first_unmet batch proposal B no.Cover is = is.1
@@ -245,7 +245,7 @@ compared_shows batch proposal B low (Ok A) h = bound_shows batch proposal A B lo
 compared_shows batch proposal B low (Err (Fails k)) h = (tt, first_unmet batch proposal B k (unproved batch proposal (Fails k) h))
 compared_shows batch proposal B low (Err (DoesNotFit w)) h = (tt, tt)
 
-pub bounded_shows : (batch : Batch) (proposal : Proposal) (B : Frac128) (judgement : Judgement) → judgement ≡ bounded_verdict_of limit batch proposal (fraction_of B)
+pub bounded_shows : (batch : Batch) (proposal : Proposal) (B : Frac128) (judgement : Verdict) → judgement ≡ bounded_verdict_of limit batch proposal (fraction_of B)
     → ShowsBounded batch proposal (fraction_of B) judgement
 bounded_shows batch proposal B judgement is =
     subst (ShowsBounded batch proposal (fraction_of B)) (sym is) (compared_shows batch proposal (fraction_of B) B.lowest (proposal_bound limit batch proposal) refl)
@@ -262,7 +262,7 @@ checked_as_verdicts batch fills claim cover measure no.Measure walked = ((λ is.
 checked_as_verdicts batch fills claim cover measure no.Bound walked = ((λ is. is), (λ is. is))
 
 -- a condition that is required is one that is checked
-required_is_checked : (k : No) (r : Result Bool Misfit) (next : Result Fraction Unproved) (B : Fraction) → compared (require k r next) B ≡ check k r (compared next B)
+required_is_checked : (k : FailedCondition) (r : Result Bool Misfit) (next : Result Fraction Unproved) (B : Fraction) → compared (require k r next) B ≡ check k r (compared next B)
 required_is_checked k (Ok true) next B = refl
 required_is_checked k (Ok false) next B = refl
 required_is_checked k (Err w) next B = refl
@@ -311,7 +311,7 @@ shapes_join filled states cover others h k =
     let inner = and_parts filled states outer.0 in
     and_true (filled && others) cover (and_true filled others inner.0 k) outer.1
 
-required : (k : No) (r : Result Bool Misfit) (next : Result Fraction Unproved) (B : Fraction) → r ≡ Ok true → next ≡ Ok B → require k r next ≡ Ok B
+required : (k : FailedCondition) (r : Result Bool Misfit) (next : Result Fraction Unproved) (B : Fraction) → r ≡ Ok true → next ≡ Ok B → require k r next ≡ Ok B
 required k r next B holds is = ap (λ (t : Result Bool Misfit). require k t next) holds ∙ is
 
 pub halves_join : HalvesJoin
@@ -330,7 +330,7 @@ halves_join batch one other A B h k =
 
 -- ---- an outcome without a certificate
 -- what comes after a condition that is checked
-after_checked : (k : No) (r : Result Bool Misfit) (next : Judgement) → check k r next ≡ Yes → (r ≡ Ok true) × (next ≡ Yes)
+after_checked : (k : FailedCondition) (r : Result Bool Misfit) (next : Verdict) → check k r next ≡ Yes → (r ≡ Ok true) × (next ≡ Yes)
 after_checked k (Ok true) next h = (refl, h)
 after_checked k (Ok false) next h = absurd (cc)
 after_checked k (Err w) next h = absurd (cc)

@@ -7,8 +7,8 @@ use Rattle.form.specs.Payoff.{IsState}
 use Rattle.clearing_model.specs.Clearing.{AreOn}
 use Rattle.clearing_model.specs.Certificate.{AreFractionFills, Point, HasUnitMass, MeasureProves}
 use Rattle.cert_check.specs.Points.{points_of}
-use Rattle.cert_check.specs.declared.outcome.No.{No}
-use Rattle.cert_check.specs.declared.outcome.No.TheVariants as no
+use Rattle.cert_check.specs.declared.outcome.FailedCondition.{FailedCondition}
+use Rattle.cert_check.specs.declared.outcome.FailedCondition.TheVariants as no
 use Rattle.cert_check.specs.Conditions.{LeavesSurplus, conditions_before}
 use Rattle.proposal_check.specs.declared.covers.Proposal.{Proposal}
 use Rattle.proposal_check.specs.Covers.{IsCoverOf, IsEnough}
@@ -23,7 +23,7 @@ pub record IsOfBatch (batch : Batch) (proposal : Proposal) : Type 0 where
   pub states : All (λ (point : Point). IsState batch.underlyings point.0) (points_of proposal.measure)
 
 -- a batch and a proposal for it meet the condition
-abbrev pub Meets : Batch → Proposal → No → Type 0
+abbrev pub Meets : Batch → Proposal → FailedCondition → Type 0
 Meets batch proposal no.BatchShape = IsOfBatch batch proposal
 Meets batch proposal no.Fill = AreFractionFills batch.orders (map fraction_of proposal.fills)
 Meets batch proposal no.Cover =
@@ -33,6 +33,6 @@ Meets batch proposal no.Measure = HasUnitMass (points_of proposal.measure)
 Meets batch proposal no.Bound = MeasureProves batch.orders (points_of proposal.measure) (fraction_of proposal.claim.surplus)
 
 -- the condition is the first that the batch and the proposal do not meet
-pub record IsFirstUnmet (batch : Batch) (proposal : Proposal) (condition : No) : Type 0 where
+pub record IsFirstUnmet (batch : Batch) (proposal : Proposal) (condition : FailedCondition) : Type 0 where
   pub before : All (Meets batch proposal) (conditions_before condition)
   pub unmet : ¬ (Meets batch proposal condition)

@@ -13,10 +13,10 @@ use Rattle.cert_check.specs.declared.measures.Measure.{Measure}
 use Rattle.cert_check.specs.Points.{points_of}
 use Rattle.cert_check.specs.declared.outcome.Claim.{Claim}
 use Rattle.cert_check.specs.declared.outcome.Cover.{Cover}
-use Rattle.cert_check.specs.declared.outcome.No.{No}
-use Rattle.cert_check.specs.declared.outcome.No.TheVariants as no
+use Rattle.cert_check.specs.declared.outcome.FailedCondition.{FailedCondition}
+use Rattle.cert_check.specs.declared.outcome.FailedCondition.TheVariants as no
 use Rattle.cert_check.specs.declared.outcome.Outcome.{Outcome}
-use Rattle.cert_check.specs.declared.outcome.Judgement.TheVariants.{Yes}
+use Rattle.cert_check.specs.declared.outcome.Verdict.TheVariants.{Yes}
 use Rattle.cert_check.specs.Conditions.{conditions_before, is_optimal_mark, Meets as OutcomeMeets}
 use Rattle.cert_check.specs.Events.{verdict_of}
 use Rattle.cert_check.specs.Laws.{IsCovered}
@@ -47,7 +47,7 @@ abbrev pub BoundSurplus : Batch → Proposal → Fraction → Type 0
 BoundSurplus batch proposal B = BoundTheGreatest batch.underlyings batch.orders (fraction_of proposal.claim.surplus) B
 
 -- the condition is the first that is not met, where the bound is said to be B
-abbrev pub IsFirstUnmetBounded : Batch → Proposal → Fraction → No → Type 0
+abbrev pub IsFirstUnmetBounded : Batch → Proposal → Fraction → FailedCondition → Type 0
 IsFirstUnmetBounded batch proposal B no.Bound = AreMet batch proposal × ¬ (HasBound batch proposal B)
 IsFirstUnmetBounded batch proposal B no.BatchShape = IsFirstUnmet batch proposal no.BatchShape
 IsFirstUnmetBounded batch proposal B no.Fill = IsFirstUnmet batch proposal no.Fill
@@ -73,7 +73,7 @@ ProposalsAreDecided = (batch : Batch) (proposal : Proposal) → ProposalsDecide 
 -- with a line, or a tree that is walked, the conditions are those of the outcome marked optimal
 abbrev pub CheckedAsVerdicts : Type 0
 CheckedAsVerdicts =
-    (batch : Batch) (fills : List Frac128) (claim : Claim) (cover : Cover) (measure : Measure) (condition : No)
+    (batch : Batch) (fills : List Frac128) (claim : Claim) (cover : Cover) (measure : Measure) (condition : FailedCondition)
     → is_walkable (leg_count batch.orders) cover ≡ true
     → (Meets batch (proposal_by fills claim cover measure) condition) ↔ (OutcomeMeets batch (as_outcome (proposal_by fills claim cover measure)) condition)
 

@@ -16,11 +16,11 @@ use Rattle.cert_check.specs.declared.outcome.Claim.{Claim}
 use Rattle.cert_check.specs.declared.outcome.Cover.{Cover}
 use Rattle.cert_check.specs.declared.outcome.Mark.{Mark}
 use Rattle.cert_check.specs.declared.outcome.Mark.TheVariants.{Optimal, Budget}
-use Rattle.cert_check.specs.declared.outcome.No.{No}
-use Rattle.cert_check.specs.declared.outcome.No.TheVariants as no
+use Rattle.cert_check.specs.declared.outcome.FailedCondition.{FailedCondition}
+use Rattle.cert_check.specs.declared.outcome.FailedCondition.TheVariants as no
 use Rattle.cert_check.specs.declared.outcome.Outcome.{Outcome}
-use Rattle.cert_check.specs.declared.outcome.Judgement.{Judgement}
-use Rattle.cert_check.specs.declared.outcome.Judgement.TheVariants.{Yes, No as Refused, Wide}
+use Rattle.cert_check.specs.declared.outcome.Verdict.{Verdict}
+use Rattle.cert_check.specs.declared.outcome.Verdict.TheVariants.{Yes, No as Refused, Wide}
 use Rattle.cert_check.specs.Shape.{has_fills, states_have, are_fills}
 use Rattle.cert_check.specs.Tests.{claim_holds, measure_holds}
 use Rattle.cert_check.specs.Events.{check}
@@ -72,7 +72,7 @@ as_fraction (Ok bound) = Ok (fraction_of bound)
 as_fraction (Err failed) = Err failed
 
 -- what comes next where a condition holds
-abbrev pub require : No → Result Bool Misfit → Result Fraction Unproved → Result Fraction Unproved
+abbrev pub require : FailedCondition → Result Bool Misfit → Result Fraction Unproved → Result Fraction Unproved
 require condition (Ok true) next = next
 require condition (Ok false) next = Err (Fails condition)
 require condition (Err w) next = Err (DoesNotFit w)
@@ -109,10 +109,10 @@ proposal_bound limit batch proposal =
     (covered_bound limit batch proposal))
 
 -- the judgement where the bound is said to be B
-abbrev pub compared : Result Fraction Unproved → Fraction → Judgement
+abbrev pub compared : Result Fraction Unproved → Fraction → Verdict
 compared (Ok bound) B = check no.Bound (Ok (is_same bound B)) Yes
 compared (Err (Fails condition)) B = Refused condition
 compared (Err (DoesNotFit w)) B = Wide w
 
-abbrev pub bounded_verdict_of : ℕ → Batch → Proposal → Fraction → Judgement
+abbrev pub bounded_verdict_of : ℕ → Batch → Proposal → Fraction → Verdict
 bounded_verdict_of limit batch proposal B = compared (proposal_bound limit batch proposal) B

@@ -16,9 +16,9 @@ use Rattle.cell_cover.specs.declared.cover.Node.{Node}
 use Rattle.cell_cover.specs.declared.cover.Node.TheVariants as cell
 use Rattle.cert_check.specs.declared.measures.Measure.{Measure}
 use Rattle.cert_check.specs.declared.outcome.Cover.TheVariants.{Line}
-use Rattle.cert_check.specs.declared.outcome.No.TheVariants as no
-use Rattle.cert_check.specs.declared.outcome.Judgement.{Judgement}
-use Rattle.cert_check.specs.declared.outcome.Judgement.TheVariants.{Yes, No}
+use Rattle.cert_check.specs.declared.outcome.FailedCondition.TheVariants as no
+use Rattle.cert_check.specs.declared.outcome.Verdict.{Verdict}
+use Rattle.cert_check.specs.declared.outcome.Verdict.TheVariants.{Yes, No}
 use Rattle.cert_check.specs.Worked.{batch, point, weighted, sevenths, half, fills}
 use Rattle.proposal_check.specs.declared.covers.Proposal.{Proposal}
 use Rattle.proposal_check.specs.declared.covers.ProposalCover.{ProposalCover}
@@ -48,7 +48,7 @@ abbrev pub proposed : List Fraction → Fraction → Measure → Result Fraction
 proposed fills surplus measure = proposal_bound limit batch (on_line fills surplus measure)
 
 -- the judgement where the bound is told
-abbrev pub told : Fraction → List Fraction → Fraction → Measure → Judgement
+abbrev pub told : Fraction → List Fraction → Fraction → Measure → Verdict
 told bound fills surplus measure = bounded_verdict_of limit batch (on_line fills surplus measure) bound
 
 -- half of the butterfly

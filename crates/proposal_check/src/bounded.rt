@@ -8,7 +8,7 @@ ghost use Rattle.cert_check.specs.Points.{IsOnStates};
 ghost use Rattle.proposal_check.specs.Proposals.{as_fraction, compared, measured_bound};
 
 use crate::covers::Unproved;
-use cert_check::{Judgement, Measure, No, bound, measure_holds};
+use cert_check::{Verdict, Measure, FailedCondition, bound, measure_holds};
 use form::Batch;
 use frac::Frac128;
 
@@ -19,24 +19,24 @@ pub(crate) fn measured_bound(batch: &Batch, measure: &Measure) -> Result<Frac128
     ensures { as_fraction result ≡ measured_bound limit batch.now.orders measure.now }
 {
     if !measure_holds(measure)? {
-        return Err(Unproved::No(No::Measure));
+        return Err(Unproved::No(FailedCondition::Measure));
     }
     Ok(bound(batch, measure)?)
 }
 
 // The judgement where the bound is said to be this number.
-pub(crate) fn compared(bound: Result<Frac128, Unproved>, claimed: &Frac128) -> Judgement
+pub(crate) fn compared(bound: Result<Frac128, Unproved>, claimed: &Frac128) -> Verdict
     ensures { result ≡ compared (as_fraction bound) (fraction_of claimed.now) }
 {
     match bound {
         Ok(total) => {
             if total == *claimed {
-                Judgement::Yes
+                Verdict::Yes
             } else {
-                Judgement::No(No::Bound)
+                Verdict::No(FailedCondition::Bound)
             }
         }
-        Err(Unproved::No(condition)) => Judgement::No(condition),
-        Err(Unproved::Wide(wide)) => Judgement::Wide(wide),
+        Err(Unproved::No(condition)) => Verdict::No(condition),
+        Err(Unproved::Wide(wide)) => Verdict::Wide(wide),
     }
 }

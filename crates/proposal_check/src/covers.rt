@@ -4,7 +4,7 @@ ghost use Rattle.std.specs.Prelude.{◌≡◌};
 ghost use Rattle.proposal_check.specs.declared.covers.Unproved.TheVariants as unproved;
 
 use cell_cover::cover::Nodes;
-use cert_check::{Claim, Cover, Fills, Measure, No};
+use cert_check::{Claim, Cover, Fills, Measure, FailedCondition};
 use exact_num::Wide;
 
 /// The proof that the liability of a proposal is enough.
@@ -31,7 +31,7 @@ pub struct Proposal {
 /// step that does not fit.
 #[derive(Clone, Copy, Debug, PartialEq, Eq)]
 pub enum Unproved {
-    No(No),
+    No(FailedCondition),
     Wide(Wide),
 }
 

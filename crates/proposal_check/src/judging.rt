@@ -18,7 +18,7 @@ use crate::bounded::{compared, measured_bound};
 use crate::covering::cover_shows;
 use crate::covers::{Proposal, Unproved};
 use crate::shape::has_shape;
-use cert_check::{Judgement, Measure, No, are_fills, surplus_holds};
+use cert_check::{Verdict, Measure, FailedCondition, are_fills, surplus_holds};
 use exact_num::Wide;
 use form::Batch;
 use frac::Frac128;
@@ -74,10 +74,10 @@ fn judged(
         as_fraction judged ≡ proposal_bound limit batch.now proposal.now) }
 {
     if !has_shape(alloc, batch, proposal, signs.len())? {
-        return Ok(Err(Unproved::No(No::BatchShape)));
+        return Ok(Err(Unproved::No(FailedCondition::BatchShape)));
     }
     if !are_fills(batch.orders.as_slice(), proposal.fills.as_slice()) {
-        return Ok(Err(Unproved::No(No::Fill)));
+        return Ok(Err(Unproved::No(FailedCondition::Fill)));
     }
     covered_bound(alloc, batch, proposal, signs)
 }
@@ -112,7 +112,7 @@ fn bound_where(
     ensures { as_fraction result ≡ bound_where limit batch.now.orders covered measure.now }
 {
     if !covered? {
-        return Err(Unproved::No(No::Cover));
+        return Err(Unproved::No(FailedCondition::Cover));
     }
     measured_bound(batch, measure)
 }
@@ -157,7 +157,7 @@ pub fn bounded_verdict(
     proposal: &Proposal,
     bound: &Frac128,
     signs: &mut [i8],
-) -> Result<Judgement, AllocError>
+) -> Result<Verdict, AllocError>
     requires underlyings { (1 ≤ batch.now.underlyings) × (batch.now.underlyings ≤ 8) }
     requires signs { length signs.old ≡ leg_count batch.now.orders }
     requires few { leg_count batch.now.orders ≤ MAX_SIGNS }
@@ -186,7 +186,7 @@ fn verdict_on(
     proposal: &Proposal,
     bound: &Frac128,
     signs: &mut [i8],
-) -> Result<Judgement, AllocError>
+) -> Result<Verdict, AllocError>
     requires underlyings { (1 ≤ batch.now.underlyings) × (batch.now.underlyings ≤ 8) }
     requires signs { length signs.old ≡ leg_count batch.now.orders }
     requires few { leg_count batch.now.orders ≤ MAX_SIGNS }

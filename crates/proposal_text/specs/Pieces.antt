@@ -1,7 +1,7 @@
 -- What proposals and the replies about them are written as.
 use Rattle.std.specs.Prelude.{ℕ, List, Option, Some, None, false, codes}
 use Rattle.form.specs.declared.orders.Batch.{Batch}
-use Rattle.cert_check.specs.declared.outcome.No.TheVariants as no
+use Rattle.cert_check.specs.declared.outcome.FailedCondition.TheVariants as no
 use Rattle.proposal_check.specs.declared.covers.Unproved.{Unproved as Reason}
 use Rattle.proposal_check.specs.declared.covers.Unproved.TheVariants as unproved
 use Rattle.frac.specs.declared.frac128.Frac128.{Frac128}

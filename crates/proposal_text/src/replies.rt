@@ -1,12 +1,12 @@
 //! The replies that `serve` has beside those of a run: to lines of proposals and phases, to a clear
 //! whose outcome was proposed, and of what accounts need and what would be filled.
 ghost use Rattle.std.specs.Prelude.{◌≡◌, ◌≢◌};
-ghost use Rattle.cert_check.specs.declared.outcome.No.TheVariants as no;
+ghost use Rattle.cert_check.specs.declared.outcome.FailedCondition.TheVariants as no;
 ghost use Rattle.proposal_check.specs.declared.covers.Unproved.TheVariants as unproved;
 ghost use Rattle.proposal_text.specs.Pieces.{failed_as};
 
 use crate::needs::Need;
-use cert_check::No;
+use cert_check::FailedCondition;
 use form::Batch;
 use frac::Frac128;
 use lists::List;
@@ -160,10 +160,10 @@ pub fn failed_as(reason: Unproved) -> Failed
     ensures { result ≡ failed_as reason }
 {
     match reason {
-        Unproved::No(No::BatchShape) => Failed::BatchShape,
-        Unproved::No(No::Fill) => Failed::Fill,
-        Unproved::No(No::Cover) => Failed::Cover,
-        Unproved::No(No::Measure | No::Bound) => Failed::Measure,
+        Unproved::No(FailedCondition::BatchShape) => Failed::BatchShape,
+        Unproved::No(FailedCondition::Fill) => Failed::Fill,
+        Unproved::No(FailedCondition::Cover) => Failed::Cover,
+        Unproved::No(FailedCondition::Measure | FailedCondition::Bound) => Failed::Measure,
         Unproved::Wide(_) => Failed::Wide,
     }
 }

@@ -29,7 +29,7 @@ use Rattle.sign_tree.specs.Legs.{fraction_legs, leg_count}
 use Rattle.sign_tree.specs.Walk.{closes_of}
 use Rattle.cert_check.specs.declared.outcome.Cover.{Cover}
 use Rattle.cert_check.specs.declared.outcome.Cover.TheVariants.{Line, Tree}
-use Rattle.cert_check.specs.declared.outcome.No.TheVariants as no
+use Rattle.cert_check.specs.declared.outcome.FailedCondition.TheVariants as no
 use Rattle.cert_check.specs.Conditions.{IsCoverOn}
 use Rattle.cert_check.specs.Shape.{are_fills}
 use Rattle.cert_check.specs.Tests.{claim_holds, cover_holds, premium_of, surplus_holds}

@@ -12,7 +12,7 @@ use Rattle.proposal_check.specs.Proposals.{bounded_verdict_of, compared, proposa
 use Rattle.cert_check.specs.Events.{verdict_of}
 use Rattle.clearing.proofs.Values.{fraction_is}
 use Rattle.clearing.proofs.Yes.{outcomes_are_judged_yes}
-use Rattle.cert_check.specs.declared.outcome.Judgement.TheVariants as judgement
+use Rattle.cert_check.specs.declared.outcome.Verdict.TheVariants as judgement
 use Rattle.cert_check.specs.declared.outcome.Outcome.{Outcome}
 use Rattle.proposal_check.specs.declared.covers.Unproved.{Unproved as Reason}
 use Rattle.command_text.specs.declared.asked.Fault.{Fault}

@@ -1,7 +1,7 @@
 use Rattle.std.proofs.Common.{◌≡◌, sym, rules, ◌∙◌}
 use Rattle.frac.specs.Range.{limit}
-use Rattle.cert_check.specs.declared.outcome.No.TheVariants as no
-use Rattle.cert_check.specs.declared.outcome.Judgement.TheVariants.{No}
+use Rattle.cert_check.specs.declared.outcome.FailedCondition.TheVariants as no
+use Rattle.cert_check.specs.declared.outcome.Verdict.TheVariants.{No}
 use Rattle.cert_check.specs.Events.{verdict_of}
 use Rattle.cert_check.proofs.Shapes.{shaped}
 use Rattle.cert_check.proofs.Certified.{conditions_cover, conditions_measure, conditions_prove}
