@@ -12,7 +12,7 @@ use Rattle.cell_cover.specs.declared.cover.Node.{Node}
 use Rattle.cert_check.specs.declared.outcome.FailedCondition.TheVariants as no
 use Rattle.proposal_check.specs.declared.covers.Proposal.{Proposal}
 use Rattle.proposal_check.specs.declared.covers.ProposalCover.TheVariants.{Cells}
-use Rattle.proposal_check.specs.declared.covers.Unproved.{Unproved}
+use Rattle.proposal_check.specs.declared.covers.BoundFailure.{BoundFailure}
 use Rattle.proposal_check.specs.Conditions.{Meets}
 use Rattle.proposal_check.specs.Covers.{IsCoverOf}
 use Rattle.proposal_check.specs.Proposals.{proposal_bound}
@@ -21,7 +21,7 @@ use Rattle.proposals.specs.Judged.{IsJudgedBound}
 
 -- its cells are those of a tree over the classes of the batch
 module _ (batch : Batch) (proposal : Proposal) (nodes : List Node) (cells : proposal.cover ≡ Cells nodes) where
-  by_bound : (r : Result Fraction Unproved) → proposal_bound limit batch proposal ≡ r → IsOk r → is_formed (length (classes_of batch.orders)) (map node_of nodes) ≡ true
+  by_bound : (r : Result Fraction BoundFailure) → proposal_bound limit batch proposal ≡ r → IsOk r → is_formed (length (classes_of batch.orders)) (map node_of nodes) ≡ true
   by_bound (Ok B) is ok =
       let met = ((proposals_are_decided batch proposal).proved B is).met in
       let shape = All-head (Meets batch proposal) no.BatchShape (no.Fill ∷ no.Cover ∷ no.Measure ∷ []) met in

@@ -10,7 +10,7 @@ use Rattle.cert_check.specs.Tests.{measure_holds}
 use Rattle.cert_check.specs.declared.outcome.FailedCondition.{FailedCondition}
 use Rattle.cert_check.specs.declared.outcome.FailedCondition.TheVariants as no
 use Rattle.proposal_check.specs.declared.covers.Proposal.{Proposal}
-use Rattle.proposal_check.specs.declared.covers.Unproved.{Unproved as Reason}
+use Rattle.proposal_check.specs.declared.covers.BoundFailure.{BoundFailure as Reason}
 use Rattle.exact_num.specs.declared.misfit.Wide.{Wide}
 use Rattle.exact_num.specs.Fits.{add_of, mul_of}
 use Rattle.exact_num.specs.Fraction.{Fraction, IsLowest, whole}

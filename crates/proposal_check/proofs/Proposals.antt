@@ -35,8 +35,8 @@ use Rattle.cert_check.specs.Tests.{claim_holds, measure_holds}
 use Rattle.cert_check.proofs.Decided.{is_true}
 use Rattle.cert_check.proofs.Shapes.{fills_met, fills_unmet}
 use Rattle.proposal_check.specs.declared.covers.Proposal.{Proposal}
-use Rattle.proposal_check.specs.declared.covers.Unproved.{Unproved}
-use Rattle.proposal_check.specs.declared.covers.Unproved.TheVariants.{No as Fails, Wide as DoesNotFit}
+use Rattle.proposal_check.specs.declared.covers.BoundFailure.{BoundFailure}
+use Rattle.proposal_check.specs.declared.covers.BoundFailure.TheVariants.{No as Fails, Wide as DoesNotFit}
 use Rattle.proposal_check.specs.Conditions.{Meets}
 use Rattle.proposal_check.specs.Covers.{fits_batch, is_walkable}
 use Rattle.proposal_check.specs.Proposals.{as_fraction, bounded_verdict_of, compared, covered_bound, fitting, has_shape, is_on_underlyings, measured_bound, proposal_bound, proposal_by, proposal_covered, require}
@@ -78,12 +78,12 @@ met_proves batch proposal B m h =
 
 -- ---- the conditions in their order
 -- what a judgement says
-abbrev Says : Batch → Proposal → Result Fraction Unproved → Type 0
+abbrev Says : Batch → Proposal → Result Fraction BoundFailure → Type 0
 Says batch proposal (Ok B) = Proves batch proposal B
 Says batch proposal (Err failed) = IsUnproved batch proposal failed
 
 -- one condition and what comes after it
-require_says : (says : Result Fraction Unproved → Type 0) (k : FailedCondition) (r : Result Bool Misfit) (next : Result Fraction Unproved)
+require_says : (says : Result Fraction BoundFailure → Type 0) (k : FailedCondition) (r : Result Bool Misfit) (next : Result Fraction BoundFailure)
     → (r ≡ Ok true → says next) → (r ≡ Ok false → says (Err (Fails k))) → ((w : Misfit) → says (Err (DoesNotFit w))) → says (require k r next)
 require_says says k (Ok true) next holds fails wide = holds refl
 require_says says k (Ok false) next holds fails wide = fails refl
@@ -149,19 +149,19 @@ judgement_says batch proposal =
 proves : (batch : Batch) (proposal : Proposal) (B : Fraction) → proposal_bound limit batch proposal ≡ Ok B → Proves batch proposal B
 proves batch proposal B h = subst (Says batch proposal) h (judgement_says batch proposal)
 
-unproved : (batch : Batch) (proposal : Proposal) (failed : Unproved) → proposal_bound limit batch proposal ≡ Err failed → IsUnproved batch proposal failed
+unproved : (batch : Batch) (proposal : Proposal) (failed : BoundFailure) → proposal_bound limit batch proposal ≡ Err failed → IsUnproved batch proposal failed
 unproved batch proposal failed h = subst (Says batch proposal) h (judgement_says batch proposal)
 
 pub proposals_are_decided : ProposalsAreDecided
 proposals_are_decided batch proposal = record { proved = proves batch proposal; unproved = unproved batch proposal }
 
 -- so of what the code answers
-pub on_bound : (P : Fraction → Type 0) (batch : Batch) (proposal : Proposal) (r : Result Frac128 Unproved) → ((B : Fraction) → Proves batch proposal B → P B)
+pub on_bound : (P : Fraction → Type 0) (batch : Batch) (proposal : Proposal) (r : Result Frac128 BoundFailure) → ((B : Fraction) → Proves batch proposal B → P B)
     → as_fraction r ≡ proposal_bound limit batch proposal → IfOk r (λ bound. P (fraction_of bound))
 on_bound P batch proposal (Ok bound) then is = then (fraction_of bound) (proves batch proposal (fraction_of bound) (sym is))
 on_bound P batch proposal (Err failed) then is = tt
 
-pub on_failed : (batch : Batch) (proposal : Proposal) (r : Result Frac128 Unproved) → as_fraction r ≡ proposal_bound limit batch proposal → IfErr r (IsUnproved batch proposal)
+pub on_failed : (batch : Batch) (proposal : Proposal) (r : Result Frac128 BoundFailure) → as_fraction r ≡ proposal_bound limit batch proposal → IfErr r (IsUnproved batch proposal)
 on_failed batch proposal (Ok bound) is = tt
 on_failed batch proposal (Err failed) is = unproved batch proposal failed (sym is)
 
@@ -174,7 +174,7 @@ from_cover batch proposal shape fills =
 
 -- ---- the steps of a bound
 -- what comes after a condition that holds
-after_required : (k : FailedCondition) (r : Result Bool Misfit) (next : Result Fraction Unproved) (B : Fraction) → require k r next ≡ Ok B → (r ≡ Ok true) × (next ≡ Ok B)
+after_required : (k : FailedCondition) (r : Result Bool Misfit) (next : Result Fraction BoundFailure) (B : Fraction) → require k r next ≡ Ok B → (r ≡ Ok true) × (next ≡ Ok B)
 after_required k (Ok true) next B h = (refl, h)
 after_required k (Ok false) next B h = absurd (cc)
 after_required k (Err w) next B h = absurd (cc)
@@ -240,7 +240,7 @@ first_unmet batch proposal B no.Cover is = is.1
 first_unmet batch proposal B no.Measure is = is.1
 first_unmet batch proposal B no.Bound is = absurd (is.0 refl)
 
-compared_shows : (batch : Batch) (proposal : Proposal) (B : Fraction) → IsLowest B → (r : Result Fraction Unproved) → proposal_bound limit batch proposal ≡ r → ShowsBounded batch proposal B (compared r B)
+compared_shows : (batch : Batch) (proposal : Proposal) (B : Fraction) → IsLowest B → (r : Result Fraction BoundFailure) → proposal_bound limit batch proposal ≡ r → ShowsBounded batch proposal B (compared r B)
 compared_shows batch proposal B low (Ok A) h = bound_shows batch proposal A B low h (is_same A B) refl
 compared_shows batch proposal B low (Err (Fails k)) h = (tt, first_unmet batch proposal B k (unproved batch proposal (Fails k) h))
 compared_shows batch proposal B low (Err (DoesNotFit w)) h = (tt, tt)
@@ -262,7 +262,7 @@ checked_as_verdicts batch fills claim cover measure no.Measure walked = ((λ is.
 checked_as_verdicts batch fills claim cover measure no.Bound walked = ((λ is. is), (λ is. is))
 
 -- a condition that is required is one that is checked
-required_is_checked : (k : FailedCondition) (r : Result Bool Misfit) (next : Result Fraction Unproved) (B : Fraction) → compared (require k r next) B ≡ check k r (compared next B)
+required_is_checked : (k : FailedCondition) (r : Result Bool Misfit) (next : Result Fraction BoundFailure) (B : Fraction) → compared (require k r next) B ≡ check k r (compared next B)
 required_is_checked k (Ok true) next B = refl
 required_is_checked k (Ok false) next B = refl
 required_is_checked k (Err w) next B = refl
@@ -311,7 +311,7 @@ shapes_join filled states cover others h k =
     let inner = and_parts filled states outer.0 in
     and_true (filled && others) cover (and_true filled others inner.0 k) outer.1
 
-required : (k : FailedCondition) (r : Result Bool Misfit) (next : Result Fraction Unproved) (B : Fraction) → r ≡ Ok true → next ≡ Ok B → require k r next ≡ Ok B
+required : (k : FailedCondition) (r : Result Bool Misfit) (next : Result Fraction BoundFailure) (B : Fraction) → r ≡ Ok true → next ≡ Ok B → require k r next ≡ Ok B
 required k r next B holds is = ap (λ (t : Result Bool Misfit). require k t next) holds ∙ is
 
 pub halves_join : HalvesJoin

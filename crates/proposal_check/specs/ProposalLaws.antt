@@ -22,8 +22,8 @@ use Rattle.cert_check.specs.Events.{verdict_of}
 use Rattle.cert_check.specs.Laws.{IsCovered}
 use Rattle.proposal_check.specs.declared.covers.Proposal.{Proposal}
 use Rattle.proposal_check.specs.declared.covers.ProposalCover.TheVariants.{Match}
-use Rattle.proposal_check.specs.declared.covers.Unproved.{Unproved}
-use Rattle.proposal_check.specs.declared.covers.Unproved.TheVariants.{No as Fails, Wide as DoesNotFit}
+use Rattle.proposal_check.specs.declared.covers.BoundFailure.{BoundFailure}
+use Rattle.proposal_check.specs.declared.covers.BoundFailure.TheVariants.{No as Fails, Wide as DoesNotFit}
 use Rattle.proposal_check.specs.Covers.{is_walkable}
 use Rattle.proposal_check.specs.Conditions.{Meets, IsFirstUnmet}
 use Rattle.proposal_check.specs.Proposals.{as_outcome, proposal_by, proposal_bound, bounded_verdict_of}
@@ -33,7 +33,7 @@ abbrev pub AreMet : Batch → Proposal → Type 0
 AreMet batch proposal = All (Meets batch proposal) (conditions_before no.Bound)
 
 -- the condition is the first that it does not meet, and not that of the bound
-abbrev pub IsUnproved : Batch → Proposal → Unproved → Type 0
+abbrev pub IsUnproved : Batch → Proposal → BoundFailure → Type 0
 IsUnproved batch proposal (Fails condition) = (condition ≢ no.Bound) × IsFirstUnmet batch proposal condition
 IsUnproved batch proposal (DoesNotFit w) = Unit {0}
 
@@ -65,7 +65,7 @@ pub record Proves (batch : Batch) (proposal : Proposal) (B : Fraction) : Type 0 
 -- that it does not meet
 pub record ProposalsDecide (batch : Batch) (proposal : Proposal) : Type 0 where
   pub proved : (B : Fraction) → proposal_bound limit batch proposal ≡ Ok B → Proves batch proposal B
-  pub unproved : (failed : Unproved) → proposal_bound limit batch proposal ≡ Err failed → IsUnproved batch proposal failed
+  pub unproved : (failed : BoundFailure) → proposal_bound limit batch proposal ≡ Err failed → IsUnproved batch proposal failed
 
 abbrev pub ProposalsAreDecided : Type 0
 ProposalsAreDecided = (batch : Batch) (proposal : Proposal) → ProposalsDecide batch proposal

@@ -27,8 +27,8 @@ use Rattle.cert_check.specs.Events.{check}
 use Rattle.proposal_check.specs.declared.covers.Proposal.{Proposal}
 use Rattle.proposal_check.specs.declared.covers.ProposalCover.{ProposalCover}
 use Rattle.proposal_check.specs.declared.covers.ProposalCover.TheVariants.{Checked, Match, Cells}
-use Rattle.proposal_check.specs.declared.covers.Unproved.{Unproved}
-use Rattle.proposal_check.specs.declared.covers.Unproved.TheVariants.{No as Fails, Wide as DoesNotFit}
+use Rattle.proposal_check.specs.declared.covers.BoundFailure.{BoundFailure}
+use Rattle.proposal_check.specs.declared.covers.BoundFailure.TheVariants.{No as Fails, Wide as DoesNotFit}
 use Rattle.proposal_check.specs.Covers.{cover_shows, fits_batch}
 
 -- ---- proposals as outcomes
@@ -67,23 +67,23 @@ has_shape batch proposal = is_on_underlyings batch proposal && fits_batch batch 
 
 -- ---- the bound
 -- the bound as a fraction
-abbrev pub as_fraction : Result Frac128 Unproved → Result Fraction Unproved
+abbrev pub as_fraction : Result Frac128 BoundFailure → Result Fraction BoundFailure
 as_fraction (Ok bound) = Ok (fraction_of bound)
 as_fraction (Err failed) = Err failed
 
 -- what comes next where a condition holds
-abbrev pub require : FailedCondition → Result Bool Misfit → Result Fraction Unproved → Result Fraction Unproved
+abbrev pub require : FailedCondition → Result Bool Misfit → Result Fraction BoundFailure → Result Fraction BoundFailure
 require condition (Ok true) next = next
 require condition (Ok false) next = Err (Fails condition)
 require condition (Err w) next = Err (DoesNotFit w)
 
 -- a sum, where its steps fit
-abbrev pub fitting : Result Fraction Misfit → Result Fraction Unproved
+abbrev pub fitting : Result Fraction Misfit → Result Fraction BoundFailure
 fitting (Ok sum) = Ok sum
 fitting (Err w) = Err (DoesNotFit w)
 
 -- the bound of the measure, where it is one
-abbrev pub measured_bound : ℕ → List Order → Measure → Result Fraction Unproved
+abbrev pub measured_bound : ℕ → List Order → Measure → Result Fraction BoundFailure
 measured_bound limit orders measure =
     require no.Measure (measure_holds limit (points_of measure)) (fitting (bound_of limit orders (points_of measure)))
 
@@ -94,22 +94,22 @@ proposal_covered limit batch proposal =
     (cover_shows limit batch proposal.fills proposal.claim.liability proposal.cover)
 
 -- the bound of the measure, where the condition of the cover holds
-abbrev pub bound_where : ℕ → List Order → Result Bool Misfit → Measure → Result Fraction Unproved
+abbrev pub bound_where : ℕ → List Order → Result Bool Misfit → Measure → Result Fraction BoundFailure
 bound_where limit orders covered measure = require no.Cover covered (measured_bound limit orders measure)
 
 -- from the cover on
-abbrev pub covered_bound : ℕ → Batch → Proposal → Result Fraction Unproved
+abbrev pub covered_bound : ℕ → Batch → Proposal → Result Fraction BoundFailure
 covered_bound limit batch proposal = bound_where limit batch.orders (proposal_covered limit batch proposal) proposal.measure
 
 -- the conditions in order: shape, fills, cover and measure; then the bound
-abbrev pub proposal_bound : ℕ → Batch → Proposal → Result Fraction Unproved
+abbrev pub proposal_bound : ℕ → Batch → Proposal → Result Fraction BoundFailure
 proposal_bound limit batch proposal =
     require no.BatchShape (Ok (has_shape batch proposal))
     (require no.Fill (Ok (are_fills batch.orders proposal.fills))
     (covered_bound limit batch proposal))
 
 -- the judgement where the bound is said to be B
-abbrev pub compared : Result Fraction Unproved → Fraction → Verdict
+abbrev pub compared : Result Fraction BoundFailure → Fraction → Verdict
 compared (Ok bound) B = check no.Bound (Ok (is_same bound B)) Yes
 compared (Err (Fails condition)) B = Refused condition
 compared (Err (DoesNotFit w)) B = Wide w

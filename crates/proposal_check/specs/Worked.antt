@@ -23,8 +23,8 @@ use Rattle.cert_check.specs.Worked.{batch, point, weighted, sevenths, half, fill
 use Rattle.proposal_check.specs.declared.covers.Proposal.{Proposal}
 use Rattle.proposal_check.specs.declared.covers.ProposalCover.{ProposalCover}
 use Rattle.proposal_check.specs.declared.covers.ProposalCover.TheVariants.{Checked, Match, Cells}
-use Rattle.proposal_check.specs.declared.covers.Unproved.{Unproved}
-use Rattle.proposal_check.specs.declared.covers.Unproved.TheVariants as unproved
+use Rattle.proposal_check.specs.declared.covers.BoundFailure.{BoundFailure}
+use Rattle.proposal_check.specs.declared.covers.BoundFailure.TheVariants as unproved
 use Rattle.proposal_check.specs.Proposals.{proposal_bound, bounded_verdict_of}
 
 abbrev one : Fraction
@@ -44,7 +44,7 @@ abbrev on_line : List Fraction → Fraction → Measure → Proposal
 on_line fills surplus measure = proposal fills (whole (pos 0)) surplus (Checked Line) measure
 
 -- the bound that a proposal for it proves
-abbrev pub proposed : List Fraction → Fraction → Measure → Result Fraction Unproved
+abbrev pub proposed : List Fraction → Fraction → Measure → Result Fraction BoundFailure
 proposed fills surplus measure = proposal_bound limit batch (on_line fills surplus measure)
 
 -- the judgement where the bound is told
@@ -78,7 +78,7 @@ crossed = record {
   orders = order_for 1 Buy (call_on (pos 10) (pos 1)) 6 ∷ order_for 2 Sell (call_on (pos 10) (pos 1)) 4 ∷ [];
 }
 
-abbrev pub matched : ProposalCover → List Fraction → ℕ → ℕ → Measure → Result Fraction Unproved
+abbrev pub matched : ProposalCover → List Fraction → ℕ → ℕ → Measure → Result Fraction BoundFailure
 matched cover fills liability surplus measure =
     proposal_bound limit crossed (proposal fills (whole (pos liability)) (whole (pos surplus)) cover measure)
 
@@ -117,7 +117,7 @@ basket = record {
 }
 
 -- all of it filled, with these cells and so much weight at prices 0
-abbrev pub covered : List Node → ℕ → Result Fraction Unproved
+abbrev pub covered : List Node → ℕ → Result Fraction BoundFailure
 covered nodes weight =
     proposal_bound limit basket
     (proposal (one ∷ one ∷ one ∷ []) (whole (pos 0)) one (Cells nodes)

@@ -7,25 +7,25 @@ ghost use Rattle.form.specs.Limits.{HasItsForms};
 ghost use Rattle.cert_check.specs.Points.{IsOnStates};
 ghost use Rattle.proposal_check.specs.Proposals.{as_fraction, compared, measured_bound};
 
-use crate::covers::Unproved;
+use crate::covers::BoundFailure;
 use cert_check::{Verdict, Measure, FailedCondition, bound, measure_holds};
 use form::Batch;
 use frac::Frac128;
 
 // The bound of the measure, where it is one.
-pub(crate) fn measured_bound(batch: &Batch, measure: &Measure) -> Result<Frac128, Unproved>
+pub(crate) fn measured_bound(batch: &Batch, measure: &Measure) -> Result<Frac128, BoundFailure>
     requires forms { HasItsForms batch.now }
     requires states { IsOnStates batch.now.underlyings measure.now }
     ensures { as_fraction result ≡ measured_bound limit batch.now.orders measure.now }
 {
     if !measure_holds(measure)? {
-        return Err(Unproved::No(FailedCondition::Measure));
+        return Err(BoundFailure::No(FailedCondition::Measure));
     }
     Ok(bound(batch, measure)?)
 }
 
 // The judgement where the bound is said to be this number.
-pub(crate) fn compared(bound: Result<Frac128, Unproved>, claimed: &Frac128) -> Verdict
+pub(crate) fn compared(bound: Result<Frac128, BoundFailure>, claimed: &Frac128) -> Verdict
     ensures { result ≡ compared (as_fraction bound) (fraction_of claimed.now) }
 {
     match bound {
@@ -36,7 +36,7 @@ pub(crate) fn compared(bound: Result<Frac128, Unproved>, claimed: &Frac128) -> V
                 Verdict::No(FailedCondition::Bound)
             }
         }
-        Err(Unproved::No(condition)) => Verdict::No(condition),
-        Err(Unproved::Wide(wide)) => Verdict::Wide(wide),
+        Err(BoundFailure::No(condition)) => Verdict::No(condition),
+        Err(BoundFailure::Wide(wide)) => Verdict::Wide(wide),
     }
 }

@@ -1,7 +1,7 @@
 //! What a solver, whoever it is, proposes for a batch.
 
 ghost use Rattle.std.specs.Prelude.{◌≡◌};
-ghost use Rattle.proposal_check.specs.declared.covers.Unproved.TheVariants as unproved;
+ghost use Rattle.proposal_check.specs.declared.covers.BoundFailure.TheVariants as unproved;
 
 use cell_cover::cover::Nodes;
 use cert_check::{Claim, Cover, Fills, Measure, FailedCondition};
@@ -30,15 +30,15 @@ pub struct Proposal {
 /// Why a proposal proves no bound: the condition that fails first, never that of the bound, or the
 /// step that does not fit.
 #[derive(Clone, Copy, Debug, PartialEq, Eq)]
-pub enum Unproved {
+pub enum BoundFailure {
     No(FailedCondition),
     Wide(Wide),
 }
 
-impl From<Wide> for Unproved {
+impl From<Wide> for BoundFailure {
     ghost from_gives = { λ wide failed. failed ≡ unproved.Wide wide };
 
     fn from(wide: Wide) -> Self {
-        Unproved::Wide(wide)
+        BoundFailure::Wide(wide)
     }
 }

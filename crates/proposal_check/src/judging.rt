@@ -16,7 +16,7 @@ ghost use Rattle.proposal_check.specs.ProposalLaws.{AreMet, BoundSurplus, HasBou
 
 use crate::bounded::{compared, measured_bound};
 use crate::covering::cover_shows;
-use crate::covers::{Proposal, Unproved};
+use crate::covers::{Proposal, BoundFailure};
 use crate::shape::has_shape;
 use cert_check::{Verdict, Measure, FailedCondition, are_fills, surplus_holds};
 use exact_num::Wide;
@@ -38,7 +38,7 @@ pub fn judge_proposal(
     batch: &Batch,
     proposal: &Proposal,
     signs: &mut [i8],
-) -> Result<Result<Frac128, Unproved>, AllocError>
+) -> Result<Result<Frac128, BoundFailure>, AllocError>
     requires underlyings { (1 ≤ batch.now.underlyings) × (batch.now.underlyings ≤ 8) }
     requires signs { length signs.old ≡ leg_count batch.now.orders }
     requires few { leg_count batch.now.orders ≤ MAX_SIGNS }
@@ -66,7 +66,7 @@ fn judged(
     batch: &Batch,
     proposal: &Proposal,
     signs: &mut [i8],
-) -> Result<Result<Frac128, Unproved>, AllocError>
+) -> Result<Result<Frac128, BoundFailure>, AllocError>
     requires underlyings { (1 ≤ batch.now.underlyings) × (batch.now.underlyings ≤ 8) }
     requires signs { length signs.old ≡ leg_count batch.now.orders }
     requires few { leg_count batch.now.orders ≤ MAX_SIGNS }
@@ -74,10 +74,10 @@ fn judged(
         as_fraction judged ≡ proposal_bound limit batch.now proposal.now) }
 {
     if !has_shape(alloc, batch, proposal, signs.len())? {
-        return Ok(Err(Unproved::No(FailedCondition::BatchShape)));
+        return Ok(Err(BoundFailure::No(FailedCondition::BatchShape)));
     }
     if !are_fills(batch.orders.as_slice(), proposal.fills.as_slice()) {
-        return Ok(Err(Unproved::No(FailedCondition::Fill)));
+        return Ok(Err(BoundFailure::No(FailedCondition::Fill)));
     }
     covered_bound(alloc, batch, proposal, signs)
 }
@@ -88,7 +88,7 @@ fn covered_bound(
     batch: &Batch,
     proposal: &Proposal,
     signs: &mut [i8],
-) -> Result<Result<Frac128, Unproved>, AllocError>
+) -> Result<Result<Frac128, BoundFailure>, AllocError>
     requires forms { HasItsForms batch.now }
     requires fills { length proposal.now.fills ≡ length batch.now.orders }
     requires cover { IsCoverOf batch.now proposal.now.cover }
@@ -106,13 +106,13 @@ fn bound_where(
     batch: &Batch,
     covered: Result<bool, Wide>,
     measure: &Measure,
-) -> Result<Frac128, Unproved>
+) -> Result<Frac128, BoundFailure>
     requires forms { HasItsForms batch.now }
     requires states { IsOnStates batch.now.underlyings measure.now }
     ensures { as_fraction result ≡ bound_where limit batch.now.orders covered measure.now }
 {
     if !covered? {
-        return Err(Unproved::No(FailedCondition::Cover));
+        return Err(BoundFailure::No(FailedCondition::Cover));
     }
     measured_bound(batch, measure)
 }

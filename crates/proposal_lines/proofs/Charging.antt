@@ -3,7 +3,7 @@ use Rattle.std.proofs.Common.{◌≡◌, ℕ, ◌+◌, map, [], true, Option, So
 use Rattle.std.specs.Option.{ok_or, option_map, option_map_or}
 use Rattle.proposal_check.specs.Proposals.{proposal_bound}
 use Rattle.cert_check.specs.declared.outcome.Outcome.{Outcome}
-use Rattle.proposal_check.specs.declared.covers.Unproved.{Unproved as Reason}
+use Rattle.proposal_check.specs.declared.covers.BoundFailure.{BoundFailure as Reason}
 use Rattle.clearing_model.specs.Certificate.{AreFractionFills}
 use Rattle.exact_num.specs.Fraction.{Fraction}
 use Rattle.exchange_core.specs.ExchangeState.{ExchangeState}

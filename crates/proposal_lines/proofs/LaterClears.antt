@@ -5,7 +5,7 @@ use Rattle.auction_phases.specs.Phases.{ended_in}
 use Rattle.proposal_lines.specs.AllKinds.{said_line}
 use Rattle.proposal_check.specs.Proposals.{proposal_bound}
 use Rattle.cert_check.specs.declared.outcome.Outcome.{Outcome}
-use Rattle.proposal_check.specs.declared.covers.Unproved.{Unproved as Reason}
+use Rattle.proposal_check.specs.declared.covers.BoundFailure.{BoundFailure as Reason}
 use Rattle.command_text.specs.declared.asked.Fault.{Fault}
 use Rattle.command_text.specs.declared.command.Command.TheVariants.{Clear, Settle}
 use Rattle.command_text.specs.declared.requests.Request.{Request}

@@ -2,7 +2,7 @@
 use Rattle.std.specs.Prelude.{ℕ, List, drop, ◌≡◌, Option, Some, None, Result, Ok, Err, if◌then◌else◌}
 use Rattle.std.specs.Option.{option_map_or}
 use Rattle.proposal_check.specs.Proposals.{proposal_bound}
-use Rattle.proposal_check.specs.declared.covers.Unproved.{Unproved as Reason}
+use Rattle.proposal_check.specs.declared.covers.BoundFailure.{BoundFailure as Reason}
 use Rattle.command_text.specs.declared.asked.Fault.{Fault}
 use Rattle.command_text.specs.declared.asked.Fault.TheVariants.{Range}
 use Rattle.command_text.specs.declared.requests.ProposeRequest.{ProposeRequest}

@@ -2,8 +2,8 @@
 use Rattle.std.specs.Prelude.{ℕ, List, Option, Some, None, false, codes}
 use Rattle.form.specs.declared.orders.Batch.{Batch}
 use Rattle.cert_check.specs.declared.outcome.FailedCondition.TheVariants as no
-use Rattle.proposal_check.specs.declared.covers.Unproved.{Unproved as Reason}
-use Rattle.proposal_check.specs.declared.covers.Unproved.TheVariants as unproved
+use Rattle.proposal_check.specs.declared.covers.BoundFailure.{BoundFailure as Reason}
+use Rattle.proposal_check.specs.declared.covers.BoundFailure.TheVariants as unproved
 use Rattle.frac.specs.declared.frac128.Frac128.{Frac128}
 use Rattle.settlement.specs.declared.position.Position.{Position}
 use Rattle.reply_print.specs.BatchPieces.{natural, whole_words, fraction, each, order_piece}

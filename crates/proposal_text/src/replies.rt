@@ -2,7 +2,7 @@
 //! whose outcome was proposed, and of what accounts need and what would be filled.
 ghost use Rattle.std.specs.Prelude.{◌≡◌, ◌≢◌};
 ghost use Rattle.cert_check.specs.declared.outcome.FailedCondition.TheVariants as no;
-ghost use Rattle.proposal_check.specs.declared.covers.Unproved.TheVariants as unproved;
+ghost use Rattle.proposal_check.specs.declared.covers.BoundFailure.TheVariants as unproved;
 ghost use Rattle.proposal_text.specs.Pieces.{failed_as};
 
 use crate::needs::Need;
@@ -10,7 +10,7 @@ use cert_check::FailedCondition;
 use form::Batch;
 use frac::Frac128;
 use lists::List;
-use proposal_check::{Proposal, Unproved};
+use proposal_check::{Proposal, BoundFailure};
 use settlement::Position;
 
 /// The positions of an account in a market, in the order in which they were added, which contracts
@@ -155,15 +155,15 @@ pub enum ProposalReply {
 }
 
 /// What a proposal fails that is judged no bound, which is never the bound itself.
-pub fn failed_as(reason: Unproved) -> Failed
+pub fn failed_as(reason: BoundFailure) -> Failed
     requires { reason ≢ unproved.No no.Bound }
     ensures { result ≡ failed_as reason }
 {
     match reason {
-        Unproved::No(FailedCondition::BatchShape) => Failed::BatchShape,
-        Unproved::No(FailedCondition::Fill) => Failed::Fill,
-        Unproved::No(FailedCondition::Cover) => Failed::Cover,
-        Unproved::No(FailedCondition::Measure | FailedCondition::Bound) => Failed::Measure,
-        Unproved::Wide(_) => Failed::Wide,
+        BoundFailure::No(FailedCondition::BatchShape) => Failed::BatchShape,
+        BoundFailure::No(FailedCondition::Fill) => Failed::Fill,
+        BoundFailure::No(FailedCondition::Cover) => Failed::Cover,
+        BoundFailure::No(FailedCondition::Measure | FailedCondition::Bound) => Failed::Measure,
+        BoundFailure::Wide(_) => Failed::Wide,
     }
 }

@@ -5,7 +5,7 @@ use Rattle.std.specs.List.{All}
 use Rattle.std.specs.Option.{option_map_or}
 use Rattle.proposal_check.specs.Proposals.{proposal_bound}
 use Rattle.proposal_check.specs.declared.covers.Proposal.{Proposal}
-use Rattle.proposal_check.specs.declared.covers.Unproved.{Unproved as Reason}
+use Rattle.proposal_check.specs.declared.covers.BoundFailure.{BoundFailure as Reason}
 use Rattle.exact_num.specs.Fraction.{Fraction}
 use Rattle.exact_num.specs.Tests.{is_at_most}
 use Rattle.form.specs.declared.orders.Batch.{Batch}

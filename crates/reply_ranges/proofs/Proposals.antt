@@ -14,7 +14,7 @@ use Rattle.clearing.proofs.Values.{fraction_is}
 use Rattle.clearing.proofs.Yes.{outcomes_are_judged_yes}
 use Rattle.cert_check.specs.declared.outcome.Verdict.TheVariants as judgement
 use Rattle.cert_check.specs.declared.outcome.Outcome.{Outcome}
-use Rattle.proposal_check.specs.declared.covers.Unproved.{Unproved as Reason}
+use Rattle.proposal_check.specs.declared.covers.BoundFailure.{BoundFailure as Reason}
 use Rattle.command_text.specs.declared.asked.Fault.{Fault}
 use Rattle.command_text.specs.declared.asked.Fault.TheVariants.{Syntax, Range}
 use Rattle.command_text.specs.declared.command.Body.TheVariants as body
