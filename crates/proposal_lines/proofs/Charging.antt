@@ -18,7 +18,7 @@ use Rattle.order_book.specs.Book.{BookState, after_batch, batch_of, market_of}
 use Rattle.order_book.specs.Markets.{MarketState}
 use Rattle.order_book.specs.Numbers.{numbers_of}
 use Rattle.proposal_text.specs.declared.replies.BoundedOutcome.{BoundedOutcome}
-use Rattle.proposal_text.specs.declared.replies.Failed.{Failed}
+use Rattle.proposal_text.specs.declared.replies.FailureKind.{FailureKind}
 use Rattle.proposal_text.specs.declared.replies.ProposalReply.TheVariants as told
 use Rattle.proposal_text.specs.declared.replies.ProposalReply.TheVariants.{Unproved}
 use Rattle.proposals.specs.Best.{are_same_orders}
@@ -107,7 +107,7 @@ judged_bound : (judged : Result Fraction Reason) (bound : Frac128) → IsJudged 
 judged_bound (Ok B) bound is = ap Ok is
 judged_bound (Err reason) bound is = absurd is
 
-judged_failed : (judged : Result Fraction Reason) (f : Failed) → IsJudged judged (Err f) → (kept : KeptProposals) (proposed : Proposed) → (Unproved f, kept) ≡ judged_effect kept proposed judged
+judged_failed : (judged : Result Fraction Reason) (f : FailureKind) → IsJudged judged (Err f) → (kept : KeptProposals) (proposed : Proposed) → (Unproved f, kept) ≡ judged_effect kept proposed judged
 judged_failed (Ok B) f is kept proposed = absurd is
 judged_failed (Err reason) f is kept proposed = ap (λ f. (Unproved f, kept)) is
 
@@ -115,5 +115,5 @@ module _ (kept : KeptProposals) (proposed : Proposed) (batch : Batch) (same : ar
   pub offered_bound : (bound : Frac128) → IsJudged (proposal_bound limit batch proposed.submission.proposal) (Ok bound) → kept_by kept proposed bound ≡ offered kept proposed batch
   offered_bound bound is = rw (same, judged_bound (proposal_bound limit batch proposed.submission.proposal) bound is, value_from-fraction_of bound) refl
 
-  pub offered_failed : (f : Failed) → IsJudged (proposal_bound limit batch proposed.submission.proposal) (Err f) → (Unproved f, kept) ≡ offered kept proposed batch
+  pub offered_failed : (f : FailureKind) → IsJudged (proposal_bound limit batch proposed.submission.proposal) (Err f) → (Unproved f, kept) ≡ offered kept proposed batch
   offered_failed f is = rw same (judged_failed (proposal_bound limit batch proposed.submission.proposal) f is kept proposed)

@@ -33,7 +33,7 @@ use Rattle.order_book.specs.Markets.{MarketState}
 use Rattle.order_book.specs.Numbers.{numbers_of}
 use Rattle.order_book.proofs.Accepting.{finishable}
 use Rattle.proposal_text.specs.declared.replies.BoundedOutcome.{BoundedOutcome}
-use Rattle.proposal_text.specs.declared.replies.RunStop.{RunStop}
+use Rattle.proposal_text.specs.declared.replies.StopReason.{StopReason}
 use Rattle.proposals.specs.Best.{surplus_of}
 use Rattle.proposals.specs.Laws.{IsProvedBest, as_proposal}
 use Rattle.proposals.specs.declared.best.Best.{Best}
@@ -61,24 +61,24 @@ is_most x y most = so (x.numerator *ℤ pos y.denominator) (y.numerator *ℤ pos
 
 -- ---- what takes the place of an outcome
 -- where the run stopped and something is kept
-abbrev pub bounded_where : Outcome → Option RunStop → Option Best → Option BoundedOutcome
+abbrev pub bounded_where : Outcome → Option StopReason → Option Best → Option BoundedOutcome
 bounded_where outcome run best = option_and_then (λ run. option_map (bounded_as outcome run) best) run
 
-pub record IsChosen (outcome : Outcome) (run : Option RunStop) (best : Option Best) (better : BoundedOutcome) : Type 0 where
+pub record IsChosen (outcome : Outcome) (run : Option StopReason) (best : Option Best) (better : BoundedOutcome) : Type 0 where
   pub kept : Best
-  pub stop : RunStop
+  pub stop : StopReason
   pub is_kept : best ≡ Some kept
   pub is_stop : run ≡ Some stop
   pub is : better ≡ bounded_as outcome stop kept
 
-pub chosen : (outcome : Outcome) (run : Option RunStop) (best : Option Best) (better : BoundedOutcome) → bounded_where outcome run best ≡ Some better → IsChosen outcome run best better
+pub chosen : (outcome : Outcome) (run : Option StopReason) (best : Option Best) (better : BoundedOutcome) → bounded_where outcome run best ≡ Some better → IsChosen outcome run best better
 chosen outcome None best better e = absurd (cc)
 chosen outcome (Some stop) None better e = absurd (cc)
 chosen outcome (Some stop) (Some kept) better e =
     record { kept = kept; stop = stop; is_kept = refl; is_stop = refl; is = sym (same_Some (bounded_as outcome stop kept) better e) }
 
 -- ---- the match, or what is kept
-module _ (outcome : Outcome) (stop : RunStop) (kept : Best) where
+module _ (outcome : Outcome) (stop : StopReason) (kept : Best) where
   abbrev covers_less : Bool
   covers_less = is_at_most (surplus_of kept.covered) (fraction_of outcome.claim.surplus)
 
@@ -111,7 +111,7 @@ module _ (outcome : Outcome) (stop : RunStop) (kept : Best) where
       (λ is. omega (arith, ints))
 
 -- a run that stopped gives no certificate
-not_optimal : (mark : Mark) (stop : RunStop) → stop_of mark ≡ Some stop → is_optimal_mark mark ≡ false
+not_optimal : (mark : Mark) (stop : StopReason) → stop_of mark ≡ Some stop → is_optimal_mark mark ≡ false
 not_optimal (Optimal cover measure) stop e = absurd (cc)
 not_optimal (Wide wide) stop e = refl
 not_optimal Budget stop e = refl
@@ -120,7 +120,7 @@ not_optimal Budget stop e = refl
 abbrev IsBoundBy : Batch → BoundedOutcome → Type 0
 IsBoundBy batch better = proposal_bound limit batch better.proposal ≡ Ok (fraction_of better.bound)
 
-bounded_proves : (batch : Batch) (outcome : Outcome) (stop : RunStop) (kept : Best) → verdict_of limit batch outcome ≡ Yes → stop_of outcome.mark ≡ Some stop
+bounded_proves : (batch : Batch) (outcome : Outcome) (stop : StopReason) (kept : Best) → verdict_of limit batch outcome ≡ Yes → stop_of outcome.mark ≡ Some stop
     → IsProvedBest batch kept → IsBoundBy batch (bounded_as outcome stop kept)
 bounded_proves batch outcome stop kept judged stopped proved =
     bounded_has outcome stop kept (IsBoundBy batch)
@@ -128,7 +128,7 @@ bounded_proves batch outcome stop kept judged stopped proved =
 
 -- ---- where the run stopped, the outcome is the match
 abbrev IsMatchedIfStopped : List Order → Outcome → Type 0
-IsMatchedIfStopped orders outcome = (run : RunStop) → stop_of outcome.mark ≡ Some run → outcome ≡ fallback orders outcome.mark outcome.units
+IsMatchedIfStopped orders outcome = (run : StopReason) → stop_of outcome.mark ≡ Some run → outcome ≡ fallback orders outcome.mark outcome.units
 
 by_values : (orders : List Order) (units spent : ℕ) (s : CoveredReading) (has : Bool) → IsMatchedIfStopped orders (if has then optimal_outcome s spent else fallback orders Budget units)
 unfolding optimal_outcome fallback
@@ -147,7 +147,7 @@ unfolding outcome_of
 matched batch budget = matched_at batch.orders budget (run_of batch budget)
 
 -- where nothing takes its place, nothing counts
-none_counts : (outcome : Outcome) (run : Option RunStop) (best : Option Best) (Matched : Type 0) → ((stop : RunStop) → run ≡ Some stop → Matched)
+none_counts : (outcome : Outcome) (run : Option StopReason) (best : Option Best) (Matched : Type 0) → ((stop : StopReason) → run ≡ Some stop → Matched)
     → bounded_where outcome run best ≡ None → IfSome run (λ stop. Matched × (best ≡ None))
 none_counts outcome None best Matched stops e = tt
 none_counts outcome (Some stop) None Matched stops e = (stops stop refl, refl)
@@ -195,7 +195,7 @@ is_better : (batch : Batch) (outcome : Outcome) (best : Option Best) (better : B
 is_better batch outcome best better proves match e =
     let c = chosen outcome (stop_of outcome.mark) best better e in
     let run : better.run ≡ c.stop = ap (λ (b : BoundedOutcome). b.run) c.is ∙ bounded_run outcome c.stop c.kept in
-    let stopped : stop_of outcome.mark ≡ Some better.run = c.is_stop ∙ ap (λ (r : RunStop). Some r) (sym run) in
+    let stopped : stop_of outcome.mark ≡ Some better.run = c.is_stop ∙ ap (λ (r : StopReason). Some r) (sym run) in
     record {
       proves = proves;
       stopped = stopped;
@@ -232,7 +232,7 @@ better_is state market budget sound accepted better is =
     subst (IsClearedAs state market (reference_in state market budget)) is (clears_are_proved state market budget sound accepted)
 
 -- ---- it is never below that of the reference run
-pub at_least : (outcome : Outcome) (run : Option RunStop) (best : Option Best) → AtMost (fraction_of outcome.claim.surplus) (charged_surplus outcome (bounded_where outcome run best))
+pub at_least : (outcome : Outcome) (run : Option StopReason) (best : Option Best) → AtMost (fraction_of outcome.claim.surplus) (charged_surplus outcome (bounded_where outcome run best))
 at_least outcome None best = omega (arith, ints)
 at_least outcome (Some stop) None = omega (arith, ints)
 at_least outcome (Some stop) (Some kept) = not_below_match outcome stop kept

@@ -27,7 +27,7 @@ use Rattle.frac.specs.declared.frac128.Frac128.{Frac128}
 use Rattle.order_book.specs.Numbers.{numbers_of}
 use Rattle.order_book.specs.Refusals.{live_refusals}
 use Rattle.order_book.proofs.MarketLists.{same_number}
-use Rattle.proposal_text.specs.declared.replies.Failed.TheVariants as failed
+use Rattle.proposal_text.specs.declared.replies.FailureKind.TheVariants as failed
 use Rattle.proposal_text.specs.declared.replies.BoundedOutcome.{BoundedOutcome}
 use Rattle.proposals.specs.Best.{after_offer, are_same_orders, best_for, surplus_of}
 use Rattle.proposals.specs.declared.best.Best.{Best}

@@ -11,7 +11,7 @@ use Rattle.exact_num.specs.Fraction.{AtMost, Fraction}
 use Rattle.exact_num.specs.Tests.{is_at_most}
 use Rattle.frac.specs.Value.{fraction_of}
 use Rattle.frac.specs.declared.frac128.Frac128.{Frac128}
-use Rattle.proposal_text.specs.declared.replies.RunStop.{RunStop}
+use Rattle.proposal_text.specs.declared.replies.StopReason.{StopReason}
 use Rattle.proposals.specs.Best.{after_offer, are_same_orders, best_for, best_of, better_fills, joined, surplus_of}
 use Rattle.proposals.specs.declared.best.CoveredFills.{CoveredFills}
 use Rattle.proposals.specs.Laws.{IsNoWorse}
@@ -29,11 +29,11 @@ at_most_trans x y z some first second =
     let two = *ℤ_mono_left x.denominator (y.numerator *ℤ pos z.denominator) (z.numerator *ℤ pos y.denominator) second in
     *ℤ_cancel_le y.denominator (x.numerator *ℤ pos z.denominator) (z.numerator *ℤ pos x.denominator) (omega (arith, some)) (omega (arith, ints, products, one, two))
 
-abbrev pub charged_by : Outcome → Option RunStop → Option Best → Fraction
+abbrev pub charged_by : Outcome → Option StopReason → Option Best → Fraction
 charged_by outcome run best = charged_surplus outcome (bounded_where outcome run best)
 
 -- a greater surplus is charged where a lesser one was
-greater : (outcome : Outcome) (run : Option RunStop) (old new : Best) → AtMost (surplus_of old.covered) (surplus_of new.covered)
+greater : (outcome : Outcome) (run : Option StopReason) (old new : Best) → AtMost (surplus_of old.covered) (surplus_of new.covered)
     → AtMost (charged_by outcome run (Some old)) (charged_by outcome run (Some new))
 greater outcome None old new le = omega (arith, ints)
 greater outcome (Some stop) old new le =
@@ -41,7 +41,7 @@ greater outcome (Some stop) old new le =
     bounded_has outcome stop old (λ b. AtMost (fraction_of b.proposal.claim.surplus) charged) (λ is. not_below_match outcome stop new)
     (λ is. at_most_trans (surplus_of old.covered) (surplus_of new.covered) charged new.covered.claim.surplus.lowest.positive le (not_below_kept outcome stop new))
 
-none_charged : (outcome : Outcome) (run : Option RunStop) → charged_by outcome run None ≡ fraction_of outcome.claim.surplus
+none_charged : (outcome : Outcome) (run : Option StopReason) → charged_by outcome run None ≡ fraction_of outcome.claim.surplus
 none_charged outcome None = refl
 none_charged outcome (Some stop) = refl
 
@@ -55,7 +55,7 @@ pub as_much : (best : Option Best) → IsNoLess best best
 as_much None = tt
 as_much (Some best) = omega (arith, ints)
 
-pub charged_no_less : (outcome : Outcome) (run : Option RunStop) (old new : Option Best) → IsNoLess old new → AtMost (charged_by outcome run old) (charged_by outcome run new)
+pub charged_no_less : (outcome : Outcome) (run : Option StopReason) (old new : Option Best) → IsNoLess old new → AtMost (charged_by outcome run old) (charged_by outcome run new)
 charged_no_less outcome run None new no_less = subst (λ x. AtMost x (charged_by outcome run new)) (sym (none_charged outcome run)) (at_least outcome run new)
 charged_no_less outcome run (Some old) None no_less = absurd no_less
 charged_no_less outcome run (Some old) (Some new) no_less = greater outcome run old new no_less

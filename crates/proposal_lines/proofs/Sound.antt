@@ -18,7 +18,7 @@ use Rattle.order_book.specs.Kept.{IsBookKept}
 use Rattle.order_book.specs.Markets.{MarketState}
 use Rattle.order_book.specs.Numbers.{numbers_of}
 use Rattle.order_book.specs.Refusals.{live_refusals}
-use Rattle.proposal_text.specs.declared.replies.Failed.TheVariants as failed
+use Rattle.proposal_text.specs.declared.replies.FailureKind.TheVariants as failed
 use Rattle.proposal_text.specs.declared.replies.ProposalReply.{ProposalReply}
 use Rattle.proposals.specs.Best.{are_same_orders}
 use Rattle.lists.specs.Refusals.{first_of}

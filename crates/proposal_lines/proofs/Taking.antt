@@ -19,7 +19,7 @@ use Rattle.lists.specs.Refusals.{first_of}
 use Rattle.order_book.specs.Numbers.{numbers_of}
 use Rattle.order_book.specs.Refusals.{live_refusals}
 use Rattle.order_book.proofs.Accepting.{listing_live}
-use Rattle.proposal_text.specs.declared.replies.Failed.TheVariants as failed
+use Rattle.proposal_text.specs.declared.replies.FailureKind.TheVariants as failed
 use Rattle.proposal_text.specs.declared.replies.ProposalReply.{ProposalReply}
 use Rattle.proposals.specs.Best.{are_same_orders, best_for}
 use Rattle.proposals.specs.Laws.{IsProvedBest}

@@ -20,7 +20,7 @@ use Rattle.exchange_core.specs.Step.{clear_effect, refusal_effect, step}
 use Rattle.exchange_lines.specs.LineSteps.{InputLine, input_line}
 use Rattle.exchange_lines.specs.Output.{written_line}
 use Rattle.live_lines.specs.Output.{places_output}
-use Rattle.proposal_text.specs.declared.replies.RunStop.{RunStop}
+use Rattle.proposal_text.specs.declared.replies.StopReason.{StopReason}
 use Rattle.reply_print.specs.declared.replies.Reply.{Reply}
 use Rattle.proposal_lines.specs.AllKinds.{said_line}
 use Rattle.proposal_lines.specs.Clears.{better_in, clear_reply, cleared_by, reference_in}
@@ -41,7 +41,7 @@ alone exchange = state_of exchange []
 abbrev with_none : List ℕ × ExchangeState → List ℕ × ProposingState
 with_none now = (now.0, alone now.1)
 
-none_better : (outcome : Outcome) (run : Option RunStop) → bounded_where outcome run None ≡ None
+none_better : (outcome : Outcome) (run : Option StopReason) → bounded_where outcome run None ≡ None
 none_better outcome None = refl
 none_better outcome (Some run) = refl
 

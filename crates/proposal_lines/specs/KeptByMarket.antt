@@ -13,8 +13,8 @@ use Rattle.proposals.specs.Best.{best_for, surplus_of}
 use Rattle.proposals.specs.Laws.{as_proposal}
 use Rattle.proposals.specs.declared.best.Best.{Best}
 use Rattle.proposal_text.specs.declared.replies.BoundedOutcome.{BoundedOutcome}
-use Rattle.proposal_text.specs.declared.replies.RunStop.{RunStop}
-use Rattle.proposal_text.specs.declared.replies.RunStop.TheVariants as stop
+use Rattle.proposal_text.specs.declared.replies.StopReason.{StopReason}
+use Rattle.proposal_text.specs.declared.replies.StopReason.TheVariants as stop
 
 -- market by market, in the order in which the last proposals for them were taken in
 abbrev pub KeptProposals : Type 0
@@ -40,22 +40,22 @@ after_end kept ended = option_map_or (λ market. without_kept market kept) ended
 
 -- ---- in place of the reference run's outcome
 -- why the run stopped; none where the outcome is the greatest
-abbrev pub stop_of : Mark → Option RunStop
+abbrev pub stop_of : Mark → Option StopReason
 stop_of (Optimal cover measure) = None
 stop_of (Wide wide) = Some stop.Wide
 stop_of Budget = Some stop.Budget
 
 -- what is kept, its fills and its measure
-abbrev pub bounded_by : Best → RunStop → ℕ → BoundedOutcome
+abbrev pub bounded_by : Best → StopReason → ℕ → BoundedOutcome
 bounded_by best run units = record { proposal = as_proposal best; bound = best.bounded.bound; run = run; units = units }
 
 -- an outcome that is the match, with the measure and the bound that are kept
-abbrev pub matched_by : Outcome → RunStop → Best → BoundedOutcome
+abbrev pub matched_by : Outcome → StopReason → Best → BoundedOutcome
 matched_by outcome run best =
     record { proposal = as_match outcome best.bounded.measure; bound = best.bounded.bound; run = run; units = outcome.units }
 
 -- by whichever covers more; by the match where it is as good
-abbrev pub bounded_as : Outcome → RunStop → Best → BoundedOutcome
+abbrev pub bounded_as : Outcome → StopReason → Best → BoundedOutcome
 bounded_as outcome run best =
     if is_at_most (surplus_of best.covered) (fraction_of outcome.claim.surplus) then matched_by outcome run best
     else bounded_by best run outcome.units

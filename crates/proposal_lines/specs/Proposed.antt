@@ -19,8 +19,8 @@ use Rattle.order_book.specs.Numbers.{numbers_of}
 use Rattle.order_book.specs.Refusals.{live_refusals}
 use Rattle.proposal_text.specs.Pieces.{failed_as}
 use Rattle.proposal_text.specs.Submissions.{submission_of}
-use Rattle.proposal_text.specs.declared.replies.Failed.{Failed}
-use Rattle.proposal_text.specs.declared.replies.Failed.TheVariants as failed
+use Rattle.proposal_text.specs.declared.replies.FailureKind.{FailureKind}
+use Rattle.proposal_text.specs.declared.replies.FailureKind.TheVariants as failed
 use Rattle.proposal_text.specs.declared.replies.ProposalReply.{ProposalReply}
 use Rattle.proposal_text.specs.declared.replies.ProposalReply.TheVariants as told
 use Rattle.proposal_text.specs.declared.submissions.Submission.{Submission}
@@ -58,7 +58,7 @@ abbrev pub kept_by : KeptProposals → Proposed → Frac128 → ProposalReply ×
 kept_by kept proposed bound =
     let best = after_proposed kept proposed bound in (told_bound proposed bound best, with_kept proposed.market best kept)
 
-abbrev pub unproved_effect : KeptProposals → Failed → ProposalReply × KeptProposals
+abbrev pub unproved_effect : KeptProposals → FailureKind → ProposalReply × KeptProposals
 unproved_effect kept f = (told.Unproved f, kept)
 
 -- by the judgement, whose bound is a number of the code
@@ -89,7 +89,7 @@ proposed_reply state (Ok proposed) =
 
 -- ---- as the code answers
 -- the bound is the judgement's, or what fails is
-abbrev pub IsJudged : Result Fraction Reason → Result Frac128 Failed → Type 0
+abbrev pub IsJudged : Result Fraction Reason → Result Frac128 FailureKind → Type 0
 IsJudged (Ok B) (Ok bound) = B ≡ fraction_of bound
 IsJudged (Ok B) (Err f) = ⊥
 IsJudged (Err reason) (Ok bound) = ⊥

@@ -12,7 +12,7 @@ use crate::proposed::Proposed;
 use form::{Batch, Order};
 use frac::Frac128;
 use proposal_check::{Proposal, judge_proposal};
-use proposal_text::{Failed, ProposalReply, failed_as};
+use proposal_text::{FailureKind, ProposalReply, failed_as};
 use sign_tree::leg_count;
 use std::alloc::{AllocError, Global};
 
@@ -37,7 +37,7 @@ fn judged(
     alloc: Global,
     batch: &Batch,
     proposal: &Proposal,
-) -> Result<Result<Frac128, Failed>, AllocError>
+) -> Result<Result<Frac128, FailureKind>, AllocError>
     requires { IsWithinLimits batch.now }
     ensures { IfOk result (IsJudged (proposal_bound limit batch.now proposal.now)) }
 {

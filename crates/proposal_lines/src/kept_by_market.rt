@@ -9,7 +9,7 @@ use frac::Frac128;
 use indexmap::IndexMap;
 use lists::List;
 use proposal_check::{Proposal, ProposalCover};
-use proposal_text::{BoundedOutcome, RunStop, Submission};
+use proposal_text::{BoundedOutcome, StopReason, Submission};
 use proposals::{Best, Kept};
 use std::alloc::{AllocError, Global};
 use std::marker::Model;
@@ -34,7 +34,7 @@ impl Model for KeptByMarket {
 }
 
 // What is kept as the outcome of a batch whose reference run stopped.
-fn bounded_by(best: Best, run: RunStop, units: u32) -> BoundedOutcome
+fn bounded_by(best: Best, run: StopReason, units: u32) -> BoundedOutcome
     ensures { result ≡ bounded_by best run units }
 {
     let Best {
@@ -56,7 +56,7 @@ fn bounded_by(best: Best, run: RunStop, units: u32) -> BoundedOutcome
 }
 
 // The match that is this outcome, with the measure and the bound that are kept.
-fn matched_by(alloc: Global, mut outcome: Outcome, run: RunStop, best: Best) -> BoundedOutcome
+fn matched_by(alloc: Global, mut outcome: Outcome, run: StopReason, best: Best) -> BoundedOutcome
     ensures { result ≡ matched_by outcome run best }
 {
     let Best {
@@ -80,7 +80,7 @@ fn matched_by(alloc: Global, mut outcome: Outcome, run: RunStop, best: Best) -> 
 
 // What takes the place of an outcome whose run stopped, where this is kept: the match, where it is
 // at least as good, or what is kept.
-fn bounded_as(alloc: Global, outcome: Outcome, run: RunStop, best: Best) -> BoundedOutcome
+fn bounded_as(alloc: Global, outcome: Outcome, run: StopReason, best: Best) -> BoundedOutcome
     ensures { result ≡ bounded_as outcome run best }
 {
     if best.covered.claim.surplus <= outcome.claim.surplus {
@@ -91,13 +91,13 @@ fn bounded_as(alloc: Global, outcome: Outcome, run: RunStop, best: Best) -> Boun
 }
 
 // Why the run of an outcome stopped; `None` where it is the greatest.
-pub(crate) fn stop_of(mark: &Mark) -> Option<RunStop>
+pub(crate) fn stop_of(mark: &Mark) -> Option<StopReason>
     ensures { result ≡ stop_of mark.now }
 {
     match mark {
         Mark::Optimal { .. } => None,
-        Mark::Wide(_) => Some(RunStop::Wide),
-        Mark::Budget => Some(RunStop::Budget),
+        Mark::Wide(_) => Some(StopReason::Wide),
+        Mark::Budget => Some(StopReason::Budget),
     }
 }
 

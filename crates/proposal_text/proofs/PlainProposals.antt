@@ -10,11 +10,11 @@ use Rattle.reply_print.proofs.Digits.{plain-decimal, plain-signed_decimal}
 use Rattle.reply_print.proofs.PlainPieces.{HasPlainTexts, HavePlainTexts, HasPlainFields, each_plain, side_plain, fraction_plain, leg_plain, order_plain, refused_plain}
 use Rattle.proposal_text.proofs.PlainCovers.{proof_plain}
 use Rattle.proposal_text.specs.declared.submissions.Submission.{Submission}
-use Rattle.proposal_text.specs.declared.replies.RunStop.{RunStop}
-use Rattle.proposal_text.specs.declared.replies.RunStop.TheVariants as stop
+use Rattle.proposal_text.specs.declared.replies.StopReason.{StopReason}
+use Rattle.proposal_text.specs.declared.replies.StopReason.TheVariants as stop
 use Rattle.proposal_text.specs.declared.replies.BoundedOutcome.{BoundedOutcome}
-use Rattle.proposal_text.specs.declared.replies.Failed.{Failed}
-use Rattle.proposal_text.specs.declared.replies.Failed.TheVariants as failed
+use Rattle.proposal_text.specs.declared.replies.FailureKind.{FailureKind}
+use Rattle.proposal_text.specs.declared.replies.FailureKind.TheVariants as failed
 use Rattle.proposal_text.specs.declared.needs.Need.{Need}
 use Rattle.proposal_text.specs.declared.needs.Need.TheVariants as need
 use Rattle.proposal_text.specs.declared.replies.AccountReply.{AccountReply}
@@ -45,7 +45,7 @@ position_plain : (p : Position) → HasPlainTexts (position_piece p)
 position_plain p =
     (refl, tt, (refl, fraction_plain p.fill, (refl, each_plain leg_piece leg_plain (legs_in p.bundle), (refl, tt, (refl, side_plain p.side, tt)))))
 
-pub stop_plain : (run : RunStop) → is_plain (stop_word run) ≡ true
+pub stop_plain : (run : StopReason) → is_plain (stop_word run) ≡ true
 stop_plain stop.Wide = refl
 stop_plain stop.Budget = refl
 
@@ -57,7 +57,7 @@ middle_plain : (line market : ℕ) (batch : Batch) (outcome : BoundedOutcome) �
 middle_plain line market batch outcome =
     (refl, each_plain fraction fraction_plain outcome.proposal.fills, (refl, fraction_plain outcome.proposal.claim.liability, (refl, tt, (refl, refl, (refl, tt, end_plain batch outcome)))))
 
-pub failed_plain : (f : Failed) → is_plain (failed_word f) ≡ true
+pub failed_plain : (f : FailureKind) → is_plain (failed_word f) ≡ true
 failed_plain failed.BatchShape = refl
 failed_plain failed.Fill = refl
 failed_plain failed.Cover = refl
@@ -78,7 +78,7 @@ account_plain line (Needs told) =
     (refl, tt, (refl, plain-signed_decimal told.balance, (refl, tt, (refl, need_plain told.need, (refl, refl, (refl, tt, tt))))))
 account_plain line (Uncovered n) = (refl, tt, (refl, need_plain n, (refl, tt, (refl, refl, (refl, refl, tt)))))
 
-pub mark_plain : (stopped : Option RunStop) → is_plain (tried_mark stopped) ≡ true
+pub mark_plain : (stopped : Option StopReason) → is_plain (tried_mark stopped) ≡ true
 mark_plain (Some run) = stop_plain run
 mark_plain None = refl
 

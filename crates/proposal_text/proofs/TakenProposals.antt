@@ -31,11 +31,11 @@ use Rattle.reply_text.proofs.TakenBatches.{IsWrittenOrder, order_is_order, order
 use Rattle.reply_text.proofs.TakenCleared.{batch_taken, claim_taken, cleared_batch_taken, fills_are_texts, fills_are_fractions, fills_taken}
 use Rattle.reply_text.proofs.TakenReplies.{then_taken, line_taken}
 use Rattle.proposal_text.specs.declared.submissions.Submission.{Submission}
-use Rattle.proposal_text.specs.declared.replies.RunStop.{RunStop}
-use Rattle.proposal_text.specs.declared.replies.RunStop.TheVariants as stop
+use Rattle.proposal_text.specs.declared.replies.StopReason.{StopReason}
+use Rattle.proposal_text.specs.declared.replies.StopReason.TheVariants as stop
 use Rattle.proposal_text.specs.declared.replies.BoundedOutcome.{BoundedOutcome}
-use Rattle.proposal_text.specs.declared.replies.Failed.{Failed}
-use Rattle.proposal_text.specs.declared.replies.Failed.TheVariants as failed
+use Rattle.proposal_text.specs.declared.replies.FailureKind.{FailureKind}
+use Rattle.proposal_text.specs.declared.replies.FailureKind.TheVariants as failed
 use Rattle.proposal_text.specs.declared.needs.Need.{Need}
 use Rattle.proposal_text.specs.declared.replies.AccountNeed.{AccountNeed}
 use Rattle.proposal_text.specs.declared.replies.AccountReply.{AccountReply}
@@ -148,22 +148,22 @@ module _ (account market : ℕ) where
 
 -- ---- words
 
-stop_is : (run : RunStop) → is_stop (string (stop_word run)) ≡ true
+stop_is : (run : StopReason) → is_stop (string (stop_word run)) ≡ true
 stop_is stop.Wide = refl
 stop_is stop.Budget = refl
 
-stop_taken : (run : RunStop) → stop_by_word (stop_word run) ≡ run
+stop_taken : (run : StopReason) → stop_by_word (stop_word run) ≡ run
 stop_taken stop.Wide = refl
 stop_taken stop.Budget = refl
 
-failed_is : (f : Failed) → is_failed (string (failed_word f)) ≡ true
+failed_is : (f : FailureKind) → is_failed (string (failed_word f)) ≡ true
 failed_is failed.BatchShape = refl
 failed_is failed.Fill = refl
 failed_is failed.Cover = refl
 failed_is failed.Measure = refl
 failed_is failed.Wide = refl
 
-failed_taken : (f : Failed) → failed_by_word (failed_word f) ≡ f
+failed_taken : (f : FailureKind) → failed_by_word (failed_word f) ≡ f
 failed_taken failed.BatchShape = refl
 failed_taken failed.Fill = refl
 failed_taken failed.Cover = refl
@@ -263,7 +263,7 @@ is_closed_taken line h = record { shape = refl; numbers = refl; taken = paired _
 is_open_taken : (line : ℕ) → IsProposalLineWithin line MarketIsOpen → IsTakenFrom line MarketIsOpen
 is_open_taken line h = record { shape = refl; numbers = refl; taken = paired _ _ line MarketIsOpen (line_taken line h.0) refl }
 
-unproved_taken : (line : ℕ) (f : Failed) → IsProposalLineWithin line (Unproved f) → IsTakenFrom line (Unproved f)
+unproved_taken : (line : ℕ) (f : FailureKind) → IsProposalLineWithin line (Unproved f) → IsTakenFrom line (Unproved f)
 unproved_taken line f h = record {
   shape = and_from _ _ (failed_is f) refl;
   numbers = refl;
@@ -304,12 +304,12 @@ account_taken line (Uncovered n) h = uncovered_taken line n h
 
 -- ---- trials
 
-mark_is : (stopped : Option RunStop) → is_tried_mark (string (tried_mark stopped)) ≡ true
+mark_is : (stopped : Option StopReason) → is_tried_mark (string (tried_mark stopped)) ≡ true
 mark_is (Some stop.Wide) = refl
 mark_is (Some stop.Budget) = refl
 mark_is None = refl
 
-mark_taken : (stopped : Option RunStop) → stopped_by_word (tried_mark stopped) ≡ stopped
+mark_taken : (stopped : Option StopReason) → stopped_by_word (tried_mark stopped) ≡ stopped
 mark_taken (Some stop.Wide) = refl
 mark_taken (Some stop.Budget) = refl
 mark_taken None = refl

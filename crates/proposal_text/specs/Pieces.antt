@@ -13,11 +13,11 @@ use Rattle.proposal_text.specs.CoverPieces.{proof_piece}
 use Rattle.proposal_text.specs.declared.needs.Need.{Need}
 use Rattle.proposal_text.specs.declared.needs.Need.TheVariants as need
 use Rattle.proposal_text.specs.declared.submissions.Submission.{Submission}
-use Rattle.proposal_text.specs.declared.replies.RunStop.{RunStop}
-use Rattle.proposal_text.specs.declared.replies.RunStop.TheVariants as stop
+use Rattle.proposal_text.specs.declared.replies.StopReason.{StopReason}
+use Rattle.proposal_text.specs.declared.replies.StopReason.TheVariants as stop
 use Rattle.proposal_text.specs.declared.replies.BoundedOutcome.{BoundedOutcome}
-use Rattle.proposal_text.specs.declared.replies.Failed.{Failed}
-use Rattle.proposal_text.specs.declared.replies.Failed.TheVariants as failed
+use Rattle.proposal_text.specs.declared.replies.FailureKind.{FailureKind}
+use Rattle.proposal_text.specs.declared.replies.FailureKind.TheVariants as failed
 use Rattle.proposal_text.specs.declared.replies.AccountNeed.{AccountNeed}
 use Rattle.proposal_text.specs.declared.replies.AccountReply.{AccountReply}
 use Rattle.proposal_text.specs.declared.replies.AccountReply.TheVariants.{Secured, Needs, Uncovered}
@@ -70,7 +70,7 @@ proposed_piece line market surplus bound best_surplus least_bound =
     (field (codes "reply") (words (codes "proposed"))
     (field (codes "surplus") (fraction surplus) no_fields)))))))
 
-abbrev pub stop_word : RunStop → List ℕ
+abbrev pub stop_word : StopReason → List ℕ
 stop_word stop.Wide = codes "wide"
 stop_word stop.Budget = codes "budget"
 
@@ -101,7 +101,7 @@ bounded_piece line number market batch outcome =
     (field (codes "bound") (fraction outcome.bound)
     (field (codes "certificate") (proof_piece outcome.proposal.cover outcome.proposal.measure) (bounded_middle line market batch outcome))))
 
-abbrev pub failed_word : Failed → List ℕ
+abbrev pub failed_word : FailureKind → List ℕ
 failed_word failed.BatchShape = codes "BatchShape"
 failed_word failed.Fill = codes "Fill"
 failed_word failed.Cover = codes "Cover"
@@ -109,7 +109,7 @@ failed_word failed.Measure = codes "Measure"
 failed_word failed.Wide = codes "Wide"
 
 -- what fails; no proposal fails its bound
-abbrev pub failed_as : Reason → Failed
+abbrev pub failed_as : Reason → FailureKind
 failed_as (unproved.No no.BatchShape) = failed.BatchShape
 failed_as (unproved.No no.Fill) = failed.Fill
 failed_as (unproved.No no.Cover) = failed.Cover
@@ -117,7 +117,7 @@ failed_as (unproved.No no.Measure) = failed.Measure
 failed_as (unproved.No no.Bound) = failed.Measure
 failed_as (unproved.Wide w) = failed.Wide
 
-abbrev pub unproved_piece : ℕ → Failed → Piece
+abbrev pub unproved_piece : ℕ → FailureKind → Piece
 unproved_piece line f =
     object (field (codes "failed") (words (failed_word f))
     (field (codes "line") (natural line)
@@ -172,7 +172,7 @@ account_piece line (Uncovered n) = uncovered_piece line n
 -- ---- trials
 
 -- the mark of a clear whose run would stop, or would not
-abbrev pub tried_mark : Option RunStop → List ℕ
+abbrev pub tried_mark : Option StopReason → List ℕ
 tried_mark (Some run) = stop_word run
 tried_mark None = codes "optimal"
 

@@ -24,11 +24,11 @@ use Rattle.reply_text.specs.ReplyValues.{account_at, market_at, batch_from, clea
 use Rattle.reply_text.specs.Taking.{natural_at, list_at, take_at}
 use Rattle.reply_text.specs.Tests.{ReplyTests, Tests, read_by, tests_of}
 use Rattle.reply_text.specs.declared.faults.LineFault.{LineFault}
-use Rattle.proposal_text.specs.declared.replies.RunStop.{RunStop}
-use Rattle.proposal_text.specs.declared.replies.RunStop.TheVariants as stop
+use Rattle.proposal_text.specs.declared.replies.StopReason.{StopReason}
+use Rattle.proposal_text.specs.declared.replies.StopReason.TheVariants as stop
 use Rattle.proposal_text.specs.declared.replies.BoundedOutcome.{BoundedOutcome}
-use Rattle.proposal_text.specs.declared.replies.Failed.{Failed}
-use Rattle.proposal_text.specs.declared.replies.Failed.TheVariants as failed
+use Rattle.proposal_text.specs.declared.replies.FailureKind.{FailureKind}
+use Rattle.proposal_text.specs.declared.replies.FailureKind.TheVariants as failed
 use Rattle.proposal_text.specs.declared.needs.Need.{Need}
 use Rattle.proposal_text.specs.declared.replies.AccountReply.TheVariants.{Secured, Needs, Uncovered}
 use Rattle.proposal_text.specs.declared.replies.Bar.{Bar}
@@ -118,10 +118,10 @@ proposed_from d =
 
 -- ---- cleared lines of version 3
 
-abbrev pub stop_by_word : List ℕ → RunStop
+abbrev pub stop_by_word : List ℕ → StopReason
 stop_by_word word = if bytes_eq word (codes "wide") then stop.Wide else stop.Budget
 
-abbrev pub bounded_of : RunStop → Frac128 → ℕ → Proposal → BoundedOutcome
+abbrev pub bounded_of : StopReason → Frac128 → ℕ → Proposal → BoundedOutcome
 bounded_of run bound units proposal = record { proposal = proposal; bound = bound; run = run; units = units }
 
 abbrev pub outcome_from : Data → Option BoundedOutcome
@@ -166,7 +166,7 @@ needs_from d =
 
 -- ---- trials
 
-abbrev pub stopped_by_word : List ℕ → Option RunStop
+abbrev pub stopped_by_word : List ℕ → Option StopReason
 stopped_by_word word = if bytes_eq word (codes "optimal") then None else Some (stop_by_word word)
 
 -- a fraction that is not below 0
@@ -176,7 +176,7 @@ not_negative x = if is_not_below_zero (fraction_of x) then Some x else None
 abbrev pub part_at : List ℕ → Data → Option Frac128
 part_at key d = option_and_then not_negative (take_at key fraction_from d)
 
-abbrev pub tried_with : ℕ → Option RunStop → Frac128 → Frac128 → ProposalReply
+abbrev pub tried_with : ℕ → Option StopReason → Frac128 → Frac128 → ProposalReply
 tried_with market stopped fill surplus = Tried market (record { fill = fill; surplus = surplus; stopped = stopped })
 
 abbrev pub tried_from : Data → Option ProposalReply
@@ -188,7 +188,7 @@ tried_from d =
 
 -- ---- refusals
 
-abbrev pub failed_by_word : List ℕ → Failed
+abbrev pub failed_by_word : List ℕ → FailureKind
 failed_by_word word =
     if bytes_eq word (codes "BatchShape") then failed.BatchShape
     else if bytes_eq word (codes "Fill") then failed.Fill

@@ -4,18 +4,18 @@ ghost use Rattle.reply_print.specs.Piece.{fields_text, no_fields, piece_text};
 ghost use Rattle.proposal_text.specs.Pieces.{bounded_end, bounded_middle, bounded_piece, stop_word};
 
 use crate::cover_text::add_proof;
-use crate::replies::{BoundedOutcome, RunStop};
+use crate::replies::{BoundedOutcome, StopReason};
 use form::Batch;
 use reply_print::printed_orders::add_orders;
 use reply_print::printing::{add_field, add_items, add_key, add_number, add_words, append};
 use std::alloc::AllocError;
 
-pub(crate) fn stop(run: RunStop) -> &'static str
+pub(crate) fn stop(run: StopReason) -> &'static str
     ensures { result.now ≡ stop_word run }
 {
     match run {
-        RunStop::Wide => "wide",
-        RunStop::Budget => "budget",
+        StopReason::Wide => "wide",
+        StopReason::Budget => "budget",
     }
 }
 

@@ -6,7 +6,7 @@ ghost use Rattle.proposal_text.specs.Pieces.{bar_number, bar_word, book_piece, c
 
 use crate::account_lines::add_account;
 use crate::bounded_lines::{add_bounded, stop};
-use crate::replies::{Bar, Failed, ProposalReply, RunStop, Trial};
+use crate::replies::{Bar, FailureKind, ProposalReply, StopReason, Trial};
 use form::Batch;
 use frac::Frac128;
 use reply_print::printed_orders::add_orders;
@@ -104,19 +104,19 @@ fn add_reopened(line: &mut Vec<u8>, at: u32, market: u32) -> Result<(), AllocErr
     append(line, "}")
 }
 
-fn word(failed: Failed) -> &'static str
+fn word(failed: FailureKind) -> &'static str
     ensures { result.now ≡ failed_word failed }
 {
     match failed {
-        Failed::BatchShape => "BatchShape",
-        Failed::Fill => "Fill",
-        Failed::Cover => "Cover",
-        Failed::Measure => "Measure",
-        Failed::Wide => "Wide",
+        FailureKind::BatchShape => "BatchShape",
+        FailureKind::Fill => "Fill",
+        FailureKind::Cover => "Cover",
+        FailureKind::Measure => "Measure",
+        FailureKind::Wide => "Wide",
     }
 }
 
-fn add_unproved(line: &mut Vec<u8>, at: u32, failed: Failed) -> Result<(), AllocError>
+fn add_unproved(line: &mut Vec<u8>, at: u32, failed: FailureKind) -> Result<(), AllocError>
     ensures { OnOk result (line.new.items
         ≡ line.old.items ++ piece_text (unproved_piece at failed)) }
 {
@@ -129,7 +129,7 @@ fn add_unproved(line: &mut Vec<u8>, at: u32, failed: Failed) -> Result<(), Alloc
     append(line, "}")
 }
 
-fn mark(stopped: Option<RunStop>) -> &'static str
+fn mark(stopped: Option<StopReason>) -> &'static str
     ensures { result.now ≡ tried_mark stopped }
 {
     match stopped {

@@ -19,7 +19,7 @@ pub type Positions = List<Position>;
 
 /// Why the reference run of a batch stopped.
 #[derive(Clone, Copy, Debug, PartialEq, Eq)]
-pub enum RunStop {
+pub enum StopReason {
     /// A step of it did not fit.
     Wide,
     /// It wanted one unit more than its budget.
@@ -33,13 +33,13 @@ pub enum RunStop {
 pub struct BoundedOutcome {
     pub proposal: Proposal,
     pub bound: Frac128,
-    pub run: RunStop,
+    pub run: StopReason,
     pub units: u32,
 }
 
 /// The first condition that a proposal fails, or that a step of its judgement does not fit.
 #[derive(Clone, Copy, Debug, PartialEq, Eq)]
-pub enum Failed {
+pub enum FailureKind {
     /// There is not one fill for each order, or the cover or a state is not one on the batch's
     /// underlyings.
     BatchShape,
@@ -80,7 +80,7 @@ pub enum AccountReply {
 pub struct Trial {
     pub fill: Frac128,
     pub surplus: Frac128,
-    pub stopped: Option<RunStop>,
+    pub stopped: Option<StopReason>,
 }
 
 /// Why a line is refused to whoever sent it.
@@ -128,7 +128,7 @@ pub enum ProposalReply {
     Stale,
     /// The proposal is judged no bound.
     Unproved {
-        failed: Failed,
+        failed: FailureKind,
     },
     /// The market is closed from here on, with so many live orders.
     Closed {
@@ -155,15 +155,15 @@ pub enum ProposalReply {
 }
 
 /// What a proposal fails that is judged no bound, which is never the bound itself.
-pub fn failed_as(reason: BoundFailure) -> Failed
+pub fn failed_as(reason: BoundFailure) -> FailureKind
     requires { reason ≢ unproved.No no.Bound }
     ensures { result ≡ failed_as reason }
 {
     match reason {
-        BoundFailure::No(FailedCondition::BatchShape) => Failed::BatchShape,
-        BoundFailure::No(FailedCondition::Fill) => Failed::Fill,
-        BoundFailure::No(FailedCondition::Cover) => Failed::Cover,
-        BoundFailure::No(FailedCondition::Measure | FailedCondition::Bound) => Failed::Measure,
-        BoundFailure::Wide(_) => Failed::Wide,
+        BoundFailure::No(FailedCondition::BatchShape) => FailureKind::BatchShape,
+        BoundFailure::No(FailedCondition::Fill) => FailureKind::Fill,
+        BoundFailure::No(FailedCondition::Cover) => FailureKind::Cover,
+        BoundFailure::No(FailedCondition::Measure | FailedCondition::Bound) => FailureKind::Measure,
+        BoundFailure::Wide(_) => FailureKind::Wide,
     }
 }

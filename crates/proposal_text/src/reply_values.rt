@@ -9,7 +9,7 @@ ghost use Rattle.proposal_text.specs.ReplyValues.{are_bounds as bounds_are, are_
 
 use crate::needs::{need_at, size_at};
 use crate::replies::{
-    AccountNeed, AccountReply, Bar, BoundedOutcome, Failed, Positions, ProposalReply, RunStop,
+    AccountNeed, AccountReply, Bar, BoundedOutcome, FailureKind, Positions, ProposalReply, StopReason,
     Trial,
 };
 use crate::submission_text::proposal_from;
@@ -175,13 +175,13 @@ pub(crate) fn proposed_from(value: &Value) -> Option<ProposalReply>
     })
 }
 
-fn run_stop(word: &str) -> RunStop
+fn run_stop(word: &str) -> StopReason
     ensures { result ≡ stop_named word.now }
 {
     if word == "wide" {
-        RunStop::Wide
+        StopReason::Wide
     } else {
-        RunStop::Budget
+        StopReason::Budget
     }
 }
 
@@ -243,19 +243,19 @@ pub(crate) fn reopened_from(value: &Value) -> Option<ProposalReply>
     Some(ProposalReply::Reopened { market })
 }
 
-fn failed(word: &str) -> Failed
+fn failed(word: &str) -> FailureKind
     ensures { result ≡ failed_named word.now }
 {
     if word == "BatchShape" {
-        Failed::BatchShape
+        FailureKind::BatchShape
     } else if word == "Fill" {
-        Failed::Fill
+        FailureKind::Fill
     } else if word == "Cover" {
-        Failed::Cover
+        FailureKind::Cover
     } else if word == "Measure" {
-        Failed::Measure
+        FailureKind::Measure
     } else {
-        Failed::Wide
+        FailureKind::Wide
     }
 }
 
@@ -349,7 +349,7 @@ fn part_at(value: &Value, key: &str) -> Option<Frac128>
     }
 }
 
-fn stopped(word: &str) -> Option<RunStop>
+fn stopped(word: &str) -> Option<StopReason>
     ensures { result ≡ stopped_named word.now }
 {
     if word == "optimal" {

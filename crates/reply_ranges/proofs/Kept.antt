@@ -14,7 +14,7 @@ use Rattle.frac.specs.Value.{fraction_of}
 use Rattle.frac.specs.ValueOf.{value_from}
 use Rattle.frac.specs.declared.frac128.Frac128.{Frac128}
 use Rattle.order_book.specs.Numbers.{numbers_of}
-use Rattle.proposal_text.specs.declared.replies.Failed.TheVariants as failed
+use Rattle.proposal_text.specs.declared.replies.FailureKind.TheVariants as failed
 use Rattle.proposal_text.specs.Within.{IsMeasureWithin, IsProposalCoverWithin, IsProposalWithin}
 use Rattle.proposals.specs.Best.{after_offer, are_same_orders, best_for, best_of, better_fills, better_measure, joined, surplus_of}
 use Rattle.proposals.specs.Laws.{as_proposal}

@@ -53,8 +53,8 @@ use Rattle.reply_print.specs.ReplyPieces.{reply_line}
 use Rattle.reply_print.specs.Within.{IsLine}
 use Rattle.reply_print.specs.Within as reply
 use Rattle.proposal_text.specs.declared.replies.BoundedOutcome.{BoundedOutcome}
-use Rattle.proposal_text.specs.declared.replies.RunStop.{RunStop}
-use Rattle.proposal_text.specs.declared.replies.Failed.TheVariants as failed
+use Rattle.proposal_text.specs.declared.replies.StopReason.{RunStop}
+use Rattle.proposal_text.specs.declared.replies.FailureKind.TheVariants as failed
 use Rattle.proposal_text.specs.declared.replies.ProposalReply.TheVariants as told
 use Rattle.proposal_text.specs.declared.submissions.Submission.{Submission}
 use Rattle.proposal_text.specs.Submissions.{IsTextOf, submission_of}
@@ -151,7 +151,7 @@ module _ (state : ProposingState) (sound : IsSound state) (are : AreKeptWithin s
   best_kept best e = subst (λ o. IfSome o (λ best. IsProposalWithin (as_proposal best))) e (best_within market (numbers_of batch.orders) state.kept are)
 
   -- the match is within its ranges, and so is what is kept
-  chosen_within : (outcome : Outcome) (stop : RunStop) (kept : Best) → IsProposalWithin (as_proposal kept) → IsProposalWithin (bounded_as outcome stop kept).proposal
+  chosen_within : (outcome : Outcome) (stop : StopReason) (kept : Best) → IsProposalWithin (as_proposal kept) → IsProposalWithin (bounded_as outcome stop kept).proposal
   chosen_within outcome stop kept within = bounded_has outcome stop kept (λ b. IsProposalWithin b.proposal) (λ is. (tt, within.1)) (λ is. within)
 
   kept_better : (outcome : Outcome) → verdict_of limit batch outcome ≡ judgement.Yes → (better : BoundedOutcome) → bounded_in market (numbers_of batch.orders) outcome state.kept ≡ Some better
