@@ -5,7 +5,7 @@ ghost use Rattle.book_proposals.specs.LiveAnswers.{proposes};
 ghost use Rattle.book_proposals.specs.Proposing.{WroteFor, WroteFrontFor, WroteFrontOf};
 
 use crate::answers::propose_for;
-use byte_streams::{Sink, Source, Stop};
+use byte_streams::{Sink, Source, IoStop};
 use live_lines::LineAnswers;
 use std::alloc::{AllocError, Global};
 
@@ -32,7 +32,7 @@ pub fn propose_live<S: Source, K: Sink>(
     alloc: Global,
     source: &mut S,
     sink: &mut K,
-) -> Result<(), Stop>
+) -> Result<(), IoStop>
     ensures in_time { IsServedInTime WroteFor true
         (S.left source.old) (K.written sink.old) (S.last_read source.new) }
     ensures served { IsServed WroteFor WroteFrontFor WroteFrontOf true (record {

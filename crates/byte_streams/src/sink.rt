@@ -4,7 +4,7 @@ ghost use Rattle.std.specs.Io.KnownBytes.{Appends};
 ghost use Rattle.byte_streams.specs.Faults.{Rose, last_count};
 ghost use Rattle.byte_streams.specs.Writes.{TookWithin, Writes, WriteCause, AppendsFront};
 
-use crate::stop::Stop;
+use crate::stop::IoStop;
 
 /// What one write to a sink answers.
 #[derive(Clone, Copy, Debug, PartialEq, Eq)]
@@ -35,11 +35,11 @@ pub trait Sink {
 }
 
 /// Appends the whole piece, or stops at the first fault, where a front of it was appended.
-pub fn write_all<K: Sink>(sink: &mut K, piece: &[u8]) -> Result<(), Stop>
+pub fn write_all<K: Sink>(sink: &mut K, piece: &[u8]) -> Result<(), IoStop>
     ensures ok { OnOk result (Appends (K.written sink.old) (K.written sink.new) piece.now) }
     ensures calm { OnOk result (K.faults sink.new ≡ K.faults sink.old) }
 
-    ensures only { IfErr result (λ stop. stop ≡ Stop.WriteFault) }
+    ensures only { IfErr result (λ stop. stop ≡ IoStop.WriteFault) }
     ensures fault { OnErr result (Rose (K.faults sink.old) (K.faults sink.new)) }
     ensures front { OnErr result
         (AppendsFront (K.written sink.old) (K.written sink.new) piece.now) }
@@ -50,7 +50,7 @@ pub fn write_all<K: Sink>(sink: &mut K, piece: &[u8]) -> Result<(), Stop>
     while sent < piece.len() {
         match sink.write(&piece[sent..]) {
             WriteAnswer::Took(count) => sent += count,
-            WriteAnswer::Failed => return Err(Stop::WriteFault),
+            WriteAnswer::Failed => return Err(IoStop::WriteFault),
         }
     }
     Ok(())

@@ -4,7 +4,7 @@ ghost use Rattle.byte_streams.specs.Faults.{Rose, last_count, raised_by};
 ghost use Rattle.byte_streams.specs.Reads.{GotWithin, LastRead, Takes, TakesUpTo, taken_after, ReadCause, WasReadAt};
 
 use crate::sink::Sink;
-use crate::stop::Stop;
+use crate::stop::IoStop;
 use std::alloc::Global;
 
 /// What one read of a source answers.
@@ -59,26 +59,26 @@ pub fn read_all<S: Source, K: Sink>(
     source: &mut S,
     sink: &K,
     limit: usize,
-) -> Result<Vec<u8>, Stop>
+) -> Result<Vec<u8>, IoStop>
     requires { limit ≤ 268435456 }
     ensures all { IfOk result (λ bytes. IfSome (S.left source.old) (λ left.
         (bytes.items ≡ left) × (S.left source.new ≡ Some []))) }
     ensures within { IfOk result (λ bytes. length bytes.items ≤ limit) }
     ensures calm { OnOk result (S.faults source.new ≡ S.faults source.old) }
 
-    ensures fault { IsErrOf result Stop.ReadFault →
+    ensures fault { IsErrOf result IoStop.ReadFault →
         Rose (S.faults source.old) (S.faults source.new) }
-    ensures in_time { IsErrOf result Stop.ReadFault →
+    ensures in_time { IsErrOf result IoStop.ReadFault →
         (S.taken source.new ≤ S.taken source.old + limit)
         × TakesUpTo (S.left source.old) (S.left source.new) limit }
-    ensures too_long { IsErrOf result Stop.TooLong →
+    ensures too_long { IsErrOf result IoStop.TooLong →
         IfSome (S.left source.old) (λ left. limit < length left) }
-    ensures no_fault_before { IsErrOf result Stop.TooLong →
+    ensures no_fault_before { IsErrOf result IoStop.TooLong →
         S.faults source.new ≡ S.faults source.old }
-    ensures too_many { IsErrOf result Stop.TooLong →
+    ensures too_many { IsErrOf result IoStop.TooLong →
         raised_by (S.taken source.old) (limit + 1) ≤ S.taken source.new }
 
-    ensures no_write_fault { result ≢ Err Stop.WriteFault }
+    ensures no_write_fault { result ≢ Err IoStop.WriteFault }
     ensures later { S.faults source.old ≤ S.faults source.new }
 
     // Until all is read nothing is written.
@@ -90,8 +90,8 @@ pub fn read_all<S: Source, K: Sink>(
         match source.read(sink, &mut buf) {
             ReadAnswer::Got(count) => bytes.extend_from_slice(&buf[..count])?,
             ReadAnswer::End => return Ok(bytes),
-            ReadAnswer::Failed => return Err(Stop::ReadFault),
+            ReadAnswer::Failed => return Err(IoStop::ReadFault),
         }
     }
-    Err(Stop::TooLong)
+    Err(IoStop::TooLong)
 }

@@ -1,13 +1,13 @@
 // Why a call ended early.
 ghost use Rattle.std.specs.Prelude.{◌≡◌};
-ghost use Rattle.byte_streams.specs.declared.stop.Stop.TheVariants.{Memory};
+ghost use Rattle.byte_streams.specs.declared.stop.IoStop.TheVariants.{Memory};
 
 use std::alloc::AllocError;
 use thiserror::Error;
 
 /// Why not all was read, answered and written.
 #[derive(Clone, Copy, Debug, PartialEq, Eq, Error)]
-pub enum Stop {
+pub enum IoStop {
     /// A read failed.
     #[error("read fault")]
     ReadFault,
@@ -22,10 +22,10 @@ pub enum Stop {
     Memory,
 }
 
-impl From<AllocError> for Stop {
+impl From<AllocError> for IoStop {
     ghost from_gives = { λ _ e. e ≡ Memory };
 
     fn from(_: AllocError) -> Self {
-        Stop::Memory
+        IoStop::Memory
     }
 }

@@ -1,4 +1,4 @@
-use byte_streams::{MemSink, Stop};
+use byte_streams::{MemSink, IoStop};
 use exchange_sessions::answer_messages;
 use limits::MAX_BYTES;
 use std::alloc::{AllocError, Global};
@@ -51,7 +51,7 @@ fn written(
     alloc: Global,
     input: &str,
     write: u32,
-    end: Result<(), Stop>,
+    end: Result<(), IoStop>,
 ) -> Result<Vec<u8>, AllocError> {
     let mut sink = MemSink::new(alloc, 1_000_000, 64, vec![in alloc; write]?)?;
     let input = input.as_bytes();
@@ -144,7 +144,7 @@ fn a_message_may_be_repeated_often(rt: HostRuntime) -> Result<(), Fail> {
 // Whether the two writes before a third that fails are a front of the answers.
 fn is_front_left(alloc: Global) -> Result<bool, AllocError> {
     let (input, output) = SESSIONS.split_once("==\n").unwrap_or((SESSIONS, ""));
-    let front = written(alloc, input, 3, Err(Stop::WriteFault))?;
+    let front = written(alloc, input, 3, Err(IoStop::WriteFault))?;
     Ok(front.len() == 128 && output.as_bytes().starts_with(front.as_slice()))
 }
 

@@ -13,7 +13,7 @@ use exact_num::{Exact, Operator, Wide};
 use frac::{Frac64, Frac128};
 use fraction_tableau::MAX_SIDE;
 use linear_programs::{Program, Solved, choices, solve};
-use simplex::{Budget, RunStop, Space, Stop};
+use simplex::{Budget, RunStop, Space, SolveStop};
 use std::alloc::{AllocError, Global};
 use std::test::Fail;
 
@@ -24,7 +24,7 @@ fn print_numbers(text: &mut String, numbers: &[Frac128]) -> Result<(), AllocErro
     Ok(())
 }
 
-fn print_end(text: &mut String, end: &Result<Solved<Frac128>, Stop>) -> Result<(), AllocError> {
+fn print_end(text: &mut String, end: &Result<Solved<Frac128>, SolveStop>) -> Result<(), AllocError> {
     match end {
         Ok(
             Solved::Optimal {
@@ -45,9 +45,9 @@ fn print_end(text: &mut String, end: &Result<Solved<Frac128>, Stop>) -> Result<(
             text.push_str(" unbounded")?;
             print_numbers(text, direction)
         }
-        Err(Stop::Wide { unit: _, wide }) => print_wide(text, wide),
-        Err(Stop::Budget) => text.push_str(" budget"),
-        Err(Stop::Memory) => text.push_str(" memory"),
+        Err(SolveStop::Wide { unit: _, wide }) => print_wide(text, wide),
+        Err(SolveStop::Budget) => text.push_str(" budget"),
+        Err(SolveStop::Memory) => text.push_str(" memory"),
     }
 }
 
@@ -70,7 +70,7 @@ fn has_its_sizes(program: &Program<Frac128>) -> bool
 fn end_text(
     alloc: Global,
     spent: u32,
-    end: &Result<Solved<Frac128>, Stop>,
+    end: &Result<Solved<Frac128>, SolveStop>,
 ) -> Result<String, AllocError> {
     let mut text = format!(in alloc; "{spent}")?;
     print_end(&mut text, end)?;

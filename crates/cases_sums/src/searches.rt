@@ -6,7 +6,7 @@ use exact_num::Exact;
 use form::{Batch, Bundle, Form, Order, Orders, Side};
 use frac::Frac128;
 use pricing_oracle::{Found, search};
-use simplex::{Budget, Stop};
+use simplex::{Budget, SolveStop};
 use std::alloc::{AllocError, Global};
 use std::test::Fail;
 
@@ -35,7 +35,7 @@ fn order(side: Side) -> Order
 }
 
 // Whether three nodes close a search.
-fn is_closed(found: &Result<Found, Stop>) -> bool {
+fn is_closed(found: &Result<Found, SolveStop>) -> bool {
     match found {
         Ok(Found::Closed(tree)) => tree.nodes.as_slice().len() == 3,
         _ => false,
@@ -43,7 +43,7 @@ fn is_closed(found: &Result<Found, Stop>) -> bool {
 }
 
 // Whether a search found a violated state whose first entry is 0.
-fn is_violated_at_zero(found: &Result<Found, Stop>) -> bool {
+fn is_violated_at_zero(found: &Result<Found, SolveStop>) -> bool {
     match found {
         Ok(Found::Violated(state)) => state.entries[0] == 0,
         _ => false,

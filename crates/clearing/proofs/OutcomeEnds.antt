@@ -8,8 +8,8 @@ use Rattle.form.specs.declared.orders.Batch.{Batch}
 use Rattle.clearing_model.specs.Clearing.{premium}
 use Rattle.bundle_match.specs.Match.{match_by_bundle}
 use Rattle.bundle_match.specs.Laws.{match_of}
-use Rattle.simplex.specs.declared.stop.Stop.{Stop}
-use Rattle.simplex.specs.declared.stop.Stop.TheVariants.{Wide as WideStop, Budget as BudgetStop}
+use Rattle.simplex.specs.declared.stop.SolveStop.{SolveStop}
+use Rattle.simplex.specs.declared.stop.SolveStop.TheVariants.{Wide as WideStop, Budget as BudgetStop}
 use Rattle.constraint_generation.specs.Answers.{IsCoverAs, IsJointAnswer}
 use Rattle.constraint_generation.specs.Run.{WrittenCover, CoveredReading}
 use Rattle.simplex_run.specs.Ending.{Ending, done, wide_at, no_unit_left}
@@ -77,8 +77,8 @@ unfolding fallback
 IsMarked-no_unit_left batch units spent run = ((spent, run), refl)
 
 -- what an answer of a stop says
-pub IsJointAnswer-wide : (end : Ending CoveredReading) (stop : Stop) (unit : ℕ) (w : Misfit) (spent : ℕ) → stop ≡ WideStop unit w → IsJointAnswer fraction_of end (Err stop) spent → end ≡ wide_at unit w
+pub IsJointAnswer-wide : (end : Ending CoveredReading) (stop : SolveStop) (unit : ℕ) (w : Misfit) (spent : ℕ) → stop ≡ WideStop unit w → IsJointAnswer fraction_of end (Err stop) spent → end ≡ wide_at unit w
 IsJointAnswer-wide end stop unit w spent is h = (subst (λ s. IsJointAnswer fraction_of end (Err s) spent) is h).0
 
-pub IsJointAnswer-budget : {A : Type 0} (value : A → Fraction) (end : Ending CoveredReading) (stop : Stop) (spent : ℕ) → stop ≡ BudgetStop → IsJointAnswer value end (Err stop) spent → end ≡ no_unit_left spent
+pub IsJointAnswer-budget : {A : Type 0} (value : A → Fraction) (end : Ending CoveredReading) (stop : SolveStop) (spent : ℕ) → stop ≡ BudgetStop → IsJointAnswer value end (Err stop) spent → end ≡ no_unit_left spent
 IsJointAnswer-budget value end stop spent is h = subst (λ s. IsJointAnswer value end (Err s) spent) is h

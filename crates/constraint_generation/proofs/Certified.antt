@@ -11,8 +11,8 @@ use Rattle.sign_tree.specs.Walk.{fraction_legs, closes_of}
 use Rattle.cert_check.specs.declared.outcome.Cover.{Cover}
 use Rattle.cert_check.specs.declared.outcome.Cover.TheVariants.{Line, Tree}
 use Rattle.line_cover.specs.Breakpoints.{later_states}
-use Rattle.simplex.specs.declared.stop.Stop.{Stop}
-use Rattle.simplex.specs.declared.stop.Stop.TheVariants.{Wide, Budget, Memory}
+use Rattle.simplex.specs.declared.stop.SolveStop.{SolveStop}
+use Rattle.simplex.specs.declared.stop.SolveStop.TheVariants.{Wide, Budget, Memory}
 use Rattle.master_program.specs.Reading.{Reading}
 use Rattle.master_program.specs.Solve.{master_solve}
 use Rattle.master_program.specs.Verdict.{sums_on, sums_with}
@@ -22,7 +22,7 @@ use Rattle.constraint_generation.specs.Answers.{IsCoverAs, IsJointAnswer, IsJudg
 use Rattle.constraint_generation.specs.Run.{CoveredReading, WrittenCover, by_line, by_tree, on_line, on_tree, sums_of, unjudged_run, joint_run}
 use Rattle.constraint_generation.proofs.JointRuns.{cleared_by}
 
-pub joint_answer_as : {A : Type 0} (value : A → Fraction) (whole ending : Ending CoveredReading) (result : Result (Solution A) Stop) (spent : ℕ) → whole ≡ ending → IsJointAnswer value ending result spent → IsJointAnswer value whole result spent
+pub joint_answer_as : {A : Type 0} (value : A → Fraction) (whole ending : Ending CoveredReading) (result : Result (Solution A) SolveStop) (spent : ℕ) → whole ≡ ending → IsJointAnswer value ending result spent → IsJointAnswer value whole result spent
 joint_answer_as {A} value whole ending result spent e is = subst (λ (x : Ending CoveredReading). IsJointAnswer value x result spent) (sym e) is
 
 -- ---- before the sums, on one underlying
@@ -78,14 +78,14 @@ unfolding joint_run
 then_sums limits n orders spent = refl
 
 -- a run that stops before the sums stops,
-pub stops_before : {A : Type 0} (value : A → Fraction) (whole ending : Ending CoveredReading) (next : CoveredReading → ℕ → Ending CoveredReading) (stop : Stop) (units : ℕ)
+pub stops_before : {A : Type 0} (value : A → Fraction) (whole ending : Ending CoveredReading) (next : CoveredReading → ℕ → Ending CoveredReading) (stop : SolveStop) (units : ℕ)
     → whole ≡ on_answer ending next → IsJointAnswer value ending (Err stop) units → IsJointAnswer value whole (Err stop) units
 stops_before value whole ending next (Wide unit w) units e is = let go : Ending CoveredReading → Ending CoveredReading = λ x. on_answer x next in (e ∙ ap go is.0, is.1)
 stops_before value whole ending next Budget units e is = let go : Ending CoveredReading → Ending CoveredReading = λ x. on_answer x next in e ∙ ap go is
 stops_before value whole ending next Memory units e is = tt
 
 -- and one that does not is judged
-pub judged_after : {A : Type 0} (value : A → Fraction) (batch : Batch) (whole ending : Ending CoveredReading) (joint : Solution A) (result : Result (Solution A) Stop) (units : ℕ)
+pub judged_after : {A : Type 0} (value : A → Fraction) (batch : Batch) (whole ending : Ending CoveredReading) (joint : Solution A) (result : Result (Solution A) SolveStop) (units : ℕ)
     → whole ≡ on_answer ending (where_fits (sums_of largest batch.underlyings batch.orders)) → OfSolution value (λ s. ending ≡ done s units) joint
     → IsJudgedAnswer value batch joint result units → IsJointAnswer value whole result units
 judged_after value batch whole ending joint result units e found judged =

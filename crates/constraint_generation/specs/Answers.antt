@@ -3,8 +3,8 @@ use Rattle.std.specs.Prelude.{ℕ, ◌≡◌, List, length, map, vec_len, Result
 use Rattle.exact_num.specs.Fraction.{Fraction}
 use Rattle.simplex.specs.Stops.{stop_of}
 use Rattle.simplex.specs.declared.stop.RunStop.{RunStop}
-use Rattle.simplex.specs.declared.stop.Stop.{Stop}
-use Rattle.simplex.specs.declared.stop.Stop.TheVariants.{Wide, Budget, Memory}
+use Rattle.simplex.specs.declared.stop.SolveStop.{SolveStop}
+use Rattle.simplex.specs.declared.stop.SolveStop.TheVariants.{Wide, Budget, Memory}
 use Rattle.frac.specs.Range.{limit as largest}
 use Rattle.form.specs.declared.orders.Batch.{Batch}
 use Rattle.cert_check.specs.declared.outcome.Cover.{Cover}
@@ -50,19 +50,19 @@ OfSolution value Holds joint = (cover : WrittenCover) × IsCoverAs cover joint.c
 
 -- the answer of the call is the end of the run, and the units are those spent; want of memory says
 -- nothing
-abbrev pub IsJointAnswer : {A : Type 0} → (A → Fraction) → Ending CoveredReading → Result (Solution A) Stop → ℕ → Type 0
+abbrev pub IsJointAnswer : {A : Type 0} → (A → Fraction) → Ending CoveredReading → Result (Solution A) SolveStop → ℕ → Type 0
 IsJointAnswer value ending (Ok joint) spent = OfSolution value (λ s. ending ≡ done s spent) joint
 IsJointAnswer value ending (Err (Wide unit wide)) spent = (ending ≡ wide_at unit wide) × (spent ≡ unit)
 IsJointAnswer value ending (Err Budget) spent = ending ≡ no_unit_left spent
 IsJointAnswer value ending (Err Memory) spent = Unit {0}
 
 -- the same where a run in given room answers
-abbrev pub as_stopped : {X : Type 0} → Result X RunStop → Result X Stop
+abbrev pub as_stopped : {X : Type 0} → Result X RunStop → Result X SolveStop
 as_stopped (Ok x) = Ok x
 as_stopped (Err stop) = Err (stop_of stop)
 
 -- the answer is the end of the sums on a solution, when so many units are spent
-abbrev pub IsJudgedAnswer : {A : Type 0} → (A → Fraction) → Batch → Solution A → Result (Solution A) Stop → ℕ → Type 0
+abbrev pub IsJudgedAnswer : {A : Type 0} → (A → Fraction) → Batch → Solution A → Result (Solution A) SolveStop → ℕ → Type 0
 IsJudgedAnswer value batch joint result spent =
     (cover : WrittenCover) → IsCoverAs cover joint.cover
     → IsJointAnswer value (where_fits (sums_of largest batch.underlyings batch.orders) (reading_in value joint, cover) spent) result spent

@@ -3,7 +3,7 @@ use Rattle.std.proofs.Common.{◌≡◌, ◌∙◌, ℕ, List, Bool, Option, Res
 use Rattle.std.specs.Io.KnownBytes.{Appends}
 use Rattle.byte_streams.specs.Reads.{LastRead}
 use Rattle.byte_streams.specs.Writes.{AppendsFront}
-use Rattle.byte_streams.specs.declared.stop.Stop.{Stop}
+use Rattle.byte_streams.specs.declared.stop.IoStop.{IoStop}
 use Rattle.live_lines.specs.Answering.{Answering}
 use Rattle.live_lines.specs.Output.{output_of}
 use Rattle.live_lines.specs.Serving.{Counts, IsServed, IsServedInTime, Known, Wrote, WroteFirst, WroteSome}
@@ -40,7 +40,7 @@ module _ {S : Type 0} (Answers : Answering S) (step : ℕ → S → List ℕ →
   answered_in_time own e left written last h =
       in_time_so skips left written last wrote (subst (λ (b : Bool). IsServedInTime (Wrote Answers b start) b left written last) e h)
 
-  pub answered : (own : Bool) → own ≡ skips → (known : Known) (counts : Counts) (ended : Result (Unit {0}) Stop)
+  pub answered : (own : Bool) → own ≡ skips → (known : Known) (counts : Counts) (ended : Result (Unit {0}) IoStop)
       → IsServed (Wrote Answers own start) (WroteSome Answers own start) (WroteFirst Answers own start) own known counts ended
       → IsServed (WroteAnswers kind) (WroteAnswersFront kind) (WroteAnswersFront kind) skips known counts ended
   answered own e known counts ended h =

@@ -4,8 +4,8 @@ use Rattle.std.proofs.KnownBytes.{Consumes-nil}
 use Rattle.std.proofs.lemmas.Option.{IfSome_then}
 use Rattle.byte_streams.specs.Reads.{LastRead}
 use Rattle.byte_streams.specs.Writes.{AppendsFront}
-use Rattle.byte_streams.specs.declared.stop.Stop.{Stop}
-use Rattle.byte_streams.specs.declared.stop.Stop.TheVariants as stop
+use Rattle.byte_streams.specs.declared.stop.IoStop.{IoStop}
+use Rattle.byte_streams.specs.declared.stop.IoStop.TheVariants as stop
 use Rattle.book_proposals.specs.LiveAnswers.{AreAnswers, texts_in}
 use Rattle.book_proposals.specs.Proposing.{WroteFor, WroteFrontFor, WroteFrontOf}
 use Rattle.demo_run.specs.Demo.{demo_output}
@@ -30,7 +30,7 @@ use Rattle.exchange_program.proofs.Served.{nothing_told, told_served}
 -- ---- the end of the answers as a status
 -- done, or stopped
 abbrev End : Type 0
-End = Result (Unit {0}) Stop
+End = Result (Unit {0}) IoStop
 
 abbrev end_at : Status → End
 end_at Done = Ok tt

@@ -2,8 +2,8 @@
 use Rattle.std.specs.Prelude.{◌≡◌, ℕ, Bool, true, false, List, ◌++◌, Option, Result, Ok, Err}
 use Rattle.std.specs.Io.KnownBytes.{Appends}
 use Rattle.byte_streams.specs.Writes.{AppendsFront}
-use Rattle.byte_streams.specs.declared.stop.Stop.{Stop}
-use Rattle.byte_streams.specs.declared.stop.Stop.TheVariants as stop
+use Rattle.byte_streams.specs.declared.stop.IoStop.{IoStop}
+use Rattle.byte_streams.specs.declared.stop.IoStop.TheVariants as stop
 use Rattle.asked_lines.specs.Apart.{TellBeside}
 use Rattle.book_proposals.specs.LiveAnswers.{AreAnswers, texts_in}
 use Rattle.exchange_sessions.specs.AllLines.{TellAllOnce, all_sessions_output}
@@ -35,7 +35,7 @@ counts_by read taken write source source_then sink sink_then = record {
 }
 
 -- the status at an end of the answers
-abbrev pub status_at : Result (Unit {0}) Stop → Status
+abbrev pub status_at : Result (Unit {0}) IoStop → Status
 status_at (Ok done) = Done
 status_at (Err stop.ReadFault) = ReadFault
 status_at (Err stop.WriteFault) = WriteFault
@@ -43,8 +43,8 @@ status_at (Err stop.TooLong) = TooLong
 status_at (Err stop.Memory) = Memory
 
 -- the status tells how the answers ended, and this holds of that end
-abbrev pub EndsAs : Status → (Result (Unit {0}) Stop → Type 0) → Type 0
-EndsAs status Holds = (ended : Result (Unit {0}) Stop) × (status ≡ status_at ended) × Holds ended
+abbrev pub EndsAs : Status → (Result (Unit {0}) IoStop → Type 0) → Type 0
+EndsAs status Holds = (ended : Result (Unit {0}) IoStop) × (status ≡ status_at ended) × Holds ended
 
 -- ---- lines of every kind, and messages whose bodies are such lines; some may ask between them
 -- no byte of messages is skipped
@@ -74,7 +74,7 @@ abbrev pub WroteAnswersFront : Served → Known → List ℕ → Type 0
 WroteAnswersFront served known bytes = AppendsFront known.written known.writes (served_output served bytes) × ServedTell served bytes (served_output served bytes)
 
 -- how the answers end
-abbrev pub IsServedAs : Served → Known → Counts → Result (Unit {0}) Stop → Type 0
+abbrev pub IsServedAs : Served → Known → Counts → Result (Unit {0}) IoStop → Type 0
 IsServedAs served known counts ended =
     IsServed (WroteAnswers served) (WroteAnswersFront served) (WroteAnswersFront served) (skips_mark served) known counts ended
 

@@ -7,7 +7,7 @@ ghost use Rattle.exchange_program.specs.Journals.{report_in as report_is, report
 ghost use Rattle.exchange_program.specs.Requests.{status_by};
 
 use crate::status::Status;
-use byte_streams::{Sink, Stop, write_all};
+use byte_streams::{Sink, IoStop, write_all};
 use journal_audit::audit_journal;
 use journal_check::{Report, audit_text, check_journal, text};
 use program_words::Journal;
@@ -51,16 +51,16 @@ pub(crate) fn report_on<K: Sink>(
     journal: Journal,
     input: &[u8],
     sink: &mut K,
-) -> Result<Status, Stop>
+) -> Result<Status, IoStop>
     ensures status { IfOk result (λ status. status ≡ status_by (report_is journal input.now)) }
     ensures ok { OnOk result
         (Appends (K.written sink.old) (K.written sink.new) (report_line journal input.now)) }
     ensures front { OnErr result
         (AppendsFront (K.written sink.old) (K.written sink.new) (report_line journal input.now)) }
-    ensures fault { IsErrOf result Stop.WriteFault →
+    ensures fault { IsErrOf result IoStop.WriteFault →
         Rose (K.faults sink.old) (K.faults sink.new) }
-    ensures no_read_fault { result ≢ Err Stop.ReadFault }
-    ensures not_too_long { result ≢ Err Stop.TooLong }
+    ensures no_read_fault { result ≢ Err IoStop.ReadFault }
+    ensures not_too_long { result ≢ Err IoStop.TooLong }
 {
     let report = report_in(alloc, journal, input)?;
     let mut line = text_in(alloc, journal, &report)?;

@@ -10,7 +10,7 @@ ghost use Rattle.exchange_program.specs.Live.{IsServedAs, WroteAnswers, counts_b
 
 use crate::status::Status;
 use asked_lines::AskedLines;
-use byte_streams::{Sink, Source, Stop};
+use byte_streams::{Sink, Source, IoStop};
 use live_lines::{LineSteps, serve};
 use member_lines::MemberLines;
 use program_words::Served;
@@ -20,15 +20,15 @@ use session_lines::{AnySession, SessionLines};
 use std::alloc::Global;
 
 // How the answers ended, as a status.
-pub(crate) fn status_at(ended: Result<(), Stop>) -> Status
+pub(crate) fn status_at(ended: Result<(), IoStop>) -> Status
     ensures { result ≡ status_at ended }
 {
     match ended {
         Ok(()) => Status::Done,
-        Err(Stop::ReadFault) => Status::ReadFault,
-        Err(Stop::WriteFault) => Status::WriteFault,
-        Err(Stop::TooLong) => Status::TooLong,
-        Err(Stop::Memory) => Status::Memory,
+        Err(IoStop::ReadFault) => Status::ReadFault,
+        Err(IoStop::WriteFault) => Status::WriteFault,
+        Err(IoStop::TooLong) => Status::TooLong,
+        Err(IoStop::Memory) => Status::Memory,
     }
 }
 
@@ -49,7 +49,7 @@ fn serve_as<A: LineSteps + Drop, S: Source, K: Sink>(
     answers: A,
     source: &mut S,
     sink: &mut K,
-) -> Result<(), Stop>
+) -> Result<(), IoStop>
     requires first { A.stands 1 answers }
     requires same { (input : List ℕ) →
         output_of A.step (skips_mark served) answers input ≡ served_output served input }
@@ -91,7 +91,7 @@ pub(crate) fn answer_live<S: Source, K: Sink>(
     served: Served,
     source: &mut S,
     sink: &mut K,
-) -> Result<(), Stop>
+) -> Result<(), IoStop>
     ensures in_time { IsServedInTime (WroteAnswers served) (skips_mark served)
         (S.left source.old) (K.written sink.old) (S.last_read source.new) }
     ensures served { IsServedAs served

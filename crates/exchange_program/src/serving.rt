@@ -15,7 +15,7 @@ use crate::check::{MAX_JOURNAL, report_on};
 use crate::demo::write_demo;
 use crate::mode_lines::ModeLines;
 use crate::status::Status;
-use byte_streams::{Sink, Source, Stop, read_all};
+use byte_streams::{Sink, Source, IoStop, read_all};
 use exchange_sessions::answer_messages;
 use limits::MAX_BYTES;
 use live_lines::answer_whole;
@@ -28,7 +28,7 @@ fn input_of<S: Source, K: Sink>(
     request: Request,
     source: &mut S,
     sink: &K,
-) -> Result<Vec<u8>, Stop>
+) -> Result<Vec<u8>, IoStop>
     requires { IsReadFirst request }
     ensures all { IfOk result (λ bytes.
         OfInput request (S.left source.old) (λ input. bytes.items ≡ input)) }
@@ -37,19 +37,19 @@ fn input_of<S: Source, K: Sink>(
         WithLimit request (λ limit. length bytes.items ≤ limit)) }
     ensures calm { OnOk result (S.faults source.new ≡ S.faults source.old) }
     ensures unread { WhereDemo request (source.new ≡ source.old) }
-    ensures no_fault { IsErrOf result Stop.ReadFault → WhereDemo request ⊥ }
-    ensures fault { IsErrOf result Stop.ReadFault →
+    ensures no_fault { IsErrOf result IoStop.ReadFault → WhereDemo request ⊥ }
+    ensures fault { IsErrOf result IoStop.ReadFault →
         Rose (S.faults source.old) (S.faults source.new) }
-    ensures in_time { IsErrOf result Stop.ReadFault → WithLimit request (λ limit.
+    ensures in_time { IsErrOf result IoStop.ReadFault → WithLimit request (λ limit.
         (S.taken source.new ≤ S.taken source.old + limit)
         × TakesUpTo (S.left source.old) (S.left source.new) limit) }
-    ensures too_long { IsErrOf result Stop.TooLong →
+    ensures too_long { IsErrOf result IoStop.TooLong →
         OfInput request (S.left source.old) (IsPastLimit request) }
-    ensures no_fault_before { IsErrOf result Stop.TooLong →
+    ensures no_fault_before { IsErrOf result IoStop.TooLong →
         S.faults source.new ≡ S.faults source.old }
-    ensures too_many { IsErrOf result Stop.TooLong →
+    ensures too_many { IsErrOf result IoStop.TooLong →
         raised_by (S.taken source.old) (past_size request) ≤ S.taken source.new }
-    ensures no_write_fault { result ≢ Err Stop.WriteFault }
+    ensures no_write_fault { result ≢ Err IoStop.WriteFault }
     ensures silent { S.last_read source.old ≡ None → IfSome (S.last_read source.new) (λ last.
         last.written ≡ K.written sink.now) }
 {
@@ -67,7 +67,7 @@ fn respond<K: Sink>(
     request: Request,
     input: &[u8],
     sink: &mut K,
-) -> Result<Status, Stop>
+) -> Result<Status, IoStop>
     requires asked { IsRequestWithin request }
     requires first { IsReadFirst request }
     requires within { WithLimit request (λ limit. length input.now ≤ limit) }
@@ -76,10 +76,10 @@ fn respond<K: Sink>(
         (OfOutput request input.now (Appends (K.written sink.old) (K.written sink.new))) }
     ensures front { OnErr result
         (OfOutput request input.now (AppendsFront (K.written sink.old) (K.written sink.new))) }
-    ensures fault { IsErrOf result Stop.WriteFault →
+    ensures fault { IsErrOf result IoStop.WriteFault →
         Rose (K.faults sink.old) (K.faults sink.new) }
-    ensures no_read_fault { result ≢ Err Stop.ReadFault }
-    ensures not_too_long { result ≢ Err Stop.TooLong }
+    ensures no_read_fault { result ≢ Err IoStop.ReadFault }
+    ensures not_too_long { result ≢ Err IoStop.TooLong }
 {
     match request {
         Request::Lines(mode) => {
@@ -175,15 +175,15 @@ pub(crate) fn answer_whole_input<S: Source, K: Sink>(
 {
     let input = match input_of(alloc, request, source, sink) {
         Ok(input) => input,
-        Err(Stop::ReadFault) => return Status::ReadFault,
-        Err(Stop::WriteFault) => unreachable!(),
-        Err(Stop::TooLong) => return Status::TooLong,
-        Err(Stop::Memory) => return Status::Memory,
+        Err(IoStop::ReadFault) => return Status::ReadFault,
+        Err(IoStop::WriteFault) => unreachable!(),
+        Err(IoStop::TooLong) => return Status::TooLong,
+        Err(IoStop::Memory) => return Status::Memory,
     };
     match respond(alloc, request, &input, sink) {
         Ok(status) => status,
-        Err(Stop::WriteFault) => Status::WriteFault,
-        Err(Stop::ReadFault | Stop::TooLong) => unreachable!(),
-        Err(Stop::Memory) => Status::Memory,
+        Err(IoStop::WriteFault) => Status::WriteFault,
+        Err(IoStop::ReadFault | IoStop::TooLong) => unreachable!(),
+        Err(IoStop::Memory) => Status::Memory,
     }
 }

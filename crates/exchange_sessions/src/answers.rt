@@ -7,7 +7,7 @@ ghost use Rattle.exchange_sessions.specs.Answers.{sessions_output};
 ghost use Rattle.limits.specs.declared.TheConstants.{MAX_BYTES};
 
 use crate::run_lines::RunLines;
-use byte_streams::{Sink, Stop};
+use byte_streams::{Sink, IoStop};
 use live_lines::answer_whole;
 use session_lines::{AnySession, SessionLines};
 use std::alloc::Global;
@@ -21,16 +21,16 @@ use std::alloc::Global;
 ///
 /// `WriteFault` at the first fault of the sink, and `Memory` where there was none. A front of the
 /// output was then written.
-pub fn answer_messages<K: Sink>(alloc: Global, input: &[u8], sink: &mut K) -> Result<(), Stop>
+pub fn answer_messages<K: Sink>(alloc: Global, input: &[u8], sink: &mut K) -> Result<(), IoStop>
     requires { length input.now ≤ MAX_BYTES }
     ensures ok { OnOk result
         (Appends (K.written sink.old) (K.written sink.new) (sessions_output input.now)) }
     ensures front { OnErr result
         (AppendsFront (K.written sink.old) (K.written sink.new) (sessions_output input.now)) }
-    ensures fault { IsErrOf result Stop.WriteFault →
+    ensures fault { IsErrOf result IoStop.WriteFault →
         Rose (K.faults sink.old) (K.faults sink.new) }
-    ensures no_read_fault { result ≢ Err Stop.ReadFault }
-    ensures not_too_long { result ≢ Err Stop.TooLong }
+    ensures no_read_fault { result ≢ Err IoStop.ReadFault }
+    ensures not_too_long { result ≢ Err IoStop.TooLong }
 {
     let lines = AnySession::new(RunLines::new(alloc));
     let messages = SessionLines::new(alloc, lines);

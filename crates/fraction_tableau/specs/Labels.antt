@@ -8,7 +8,7 @@ use Rattle.simplex_run.specs.Table.{label_at}
 use Rattle.simplex_run.specs.Choice.{Column, smaller}
 use Rattle.simplex_run.specs.Pivot.{Stop as StopOf, stop_of, less_product}
 use Rattle.fraction_tableau.specs.declared.columns.Entering.{Entering}
-use Rattle.fraction_tableau.specs.declared.stops.Stop.{Stop}
+use Rattle.fraction_tableau.specs.declared.stops.ColumnStop.{ColumnStop}
 use Rattle.fraction_tableau.specs.declared.stops.Step.{Step}
 use Rattle.fraction_tableau.specs.declared.stops.Step.TheVariants.{Over, Less}
 
@@ -20,7 +20,7 @@ abbrev pub with_column : Bool → Column → Option Column → Option Column
 with_column below c later = let here = Some (smaller c later) in if below then here else later
 
 -- ---- the step that is told
-abbrev pub as_stop : Stop → StopOf
+abbrev pub as_stop : ColumnStop → StopOf
 as_stop s = stop_of s.label s.wide
 
 -- the stop so far, or that of a smaller variable, where its step does not fit

@@ -8,7 +8,7 @@ ghost use Rattle.fraction_tableau.specs.Nonzero.{nonzero_places};
 
 use crate::columns::label_of;
 use crate::entries::{is_zero, less_product, list_nonzero, quotient};
-use crate::stops::{Step, Stop, least_stop};
+use crate::stops::{Step, ColumnStop, least_stop};
 use exact_num::{Exact, Wide};
 
 /// Divides each entry; `places` are those where the row is not 0.
@@ -32,7 +32,7 @@ pub fn divide_row<N: Exact>(
             Ok(entry) => row[place] = entry,
             Err(wide) => {
                 let label = label_of(labels, columns, place);
-                let found = Stop { label, wide };
+                let found = ColumnStop { label, wide };
                 let later = &places[i + 1..];
                 let step = Step::Over(divisor);
                 return Err(least_stop(row, row, step, later, labels, columns, found));
@@ -66,7 +66,7 @@ pub fn eliminate_row<N: Exact>(
             Ok(entry) => row[place] = entry,
             Err(wide) => {
                 let label = label_of(labels, columns, place);
-                let found = Stop { label, wide };
+                let found = ColumnStop { label, wide };
                 let later = &places[i + 1..];
                 let step = Step::Less(factor);
                 return Err(least_stop(row, pivot, step, later, labels, columns, found));

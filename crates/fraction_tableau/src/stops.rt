@@ -19,7 +19,7 @@ pub enum Step<N> {
 
 /// A step that does not fit, and the variable of its column.
 #[derive(Clone, Copy)]
-pub struct Stop {
+pub struct ColumnStop {
     pub label: usize,
     pub wide: Wide,
 }
@@ -37,14 +37,14 @@ fn step_at<N: Exact>(step: Step<N>, entry: N, pivot: N) -> Result<N, Wide>
 }
 
 /// The stop so far, or that of a smaller variable, where its step does not fit.
-fn smaller_stop<N: Exact>(best: Stop, label: usize, step: Result<N, Wide>) -> Stop
+fn smaller_stop<N: Exact>(best: ColumnStop, label: usize, step: Result<N, Wide>) -> ColumnStop
     ensures { as_stop result ≡ smaller_stop_of label (meaning N.fraction step) (as_stop best) }
 {
     match step {
         Ok(_) => best,
         Err(wide) => {
             if label < best.label {
-                Stop { label, wide }
+                ColumnStop { label, wide }
             } else {
                 best
             }
@@ -62,7 +62,7 @@ pub fn least_stop<N: Exact>(
     places: &[usize],
     labels: &[usize],
     columns: usize,
-    found: Stop,
+    found: ColumnStop,
 ) -> Wide
     requires divisor { IsDivisor N.fraction step }
     requires widths { (length row.now ≡ length labels.now + 1)

@@ -14,7 +14,7 @@ use exact_num::Exact;
 use form::Batch;
 use frac::Frac128;
 use sign_tree::leg_count;
-use simplex::{Budget, RunStop, Stop};
+use simplex::{Budget, RunStop, SolveStop};
 use std::alloc::Global;
 
 // The whole run in given room: the run of `solve_unjudged`, and last the sums of the verdict, for
@@ -71,14 +71,14 @@ pub fn solve_joint<N: Exact>(
     alloc: Global,
     batch: &Batch,
     budget: &mut Budget,
-) -> Result<Solution<N>, Stop>
+) -> Result<Solution<N>, SolveStop>
     requires limits { IsWithinLimits batch.now }
     requires units { budget.old.limit ≤ MAX_BUDGET }
     ensures run { IsJointAnswer N.fraction (joint_run
         (limits_of (unsigned_abs N.LIMIT) budget.old.limit) batch.now.underlyings
         batch.now.orders budget.old.spent) result budget.new.spent }
     ensures holds { IfOk result (IsBestOf N.fraction batch.now) }
-    ensures memory { result ≡ Err Stop.Memory → budget.new.spent ≡ budget.old.spent }
+    ensures memory { result ≡ Err SolveStop.Memory → budget.new.spent ≡ budget.old.spent }
     ensures limit { budget.new.limit ≡ budget.old.limit }
 {
     let orders = batch.orders.as_slice();

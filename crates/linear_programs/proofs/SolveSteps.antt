@@ -17,7 +17,7 @@ use Rattle.simplex.specs.declared.stop.RunStop.{RunStop}
 use Rattle.simplex.specs.declared.stop.RunStop.TheVariants.{Wide as RunWide, Budget as RunBudget}
 use Rattle.linear_programs.specs.declared.solved.Solved.{Solved}
 use Rattle.linear_programs.specs.declared.solved.Solved.TheVariants.{Optimal, Unbounded}
-use Rattle.simplex.specs.declared.stop.Stop.TheVariants.{Budget as OutOfBudget}
+use Rattle.simplex.specs.declared.stop.SolveStop.TheVariants.{Budget as OutOfBudget}
 use Rattle.simplex.specs.Stops.{stop_of}
 use Rattle.linear_programs.specs.Programs.{as_program}
 use Rattle.simplex.specs.Spaces.{Contents, nothing, given, found, rising, stopped, IsFound, IsRising, x_of, y_of, reduced_of, direction_of, value_of, answer_of, contents_after}

@@ -10,7 +10,7 @@ use crate::program::Program;
 use crate::solved::Solved;
 use exact_num::Exact;
 use simplex::fill::zeros;
-use simplex::{Budget, Space, Stop};
+use simplex::{Budget, Space, SolveStop};
 use std::alloc::{AllocError, Global};
 
 /// A space in which the program is given.
@@ -118,16 +118,16 @@ pub fn solve<N: Exact>(
     alloc: Global,
     program: &Program<N>,
     budget: &mut Budget,
-) -> Result<Solved<N>, Stop>
+) -> Result<Solved<N>, SolveStop>
     requires { IsProper N.fraction program.now }
     ensures run { IsAnswer N.fraction
         (run_of (unsigned_abs N.LIMIT) (as_program N.fraction program.now)
         (budget.old.limit - budget.old.spent) budget.old.spent)
         result budget.new.spent }
     ensures holds { HoldsOf N.fraction (as_program N.fraction program.now) result }
-    ensures enough { result ≡ Err Stop.Budget
+    ensures enough { result ≡ Err SolveStop.Budget
         → budget.old.limit - budget.old.spent < bases_of (as_program N.fraction program.now) }
-    ensures memory { result ≡ Err Stop.Memory → budget.new.spent ≡ budget.old.spent }
+    ensures memory { result ≡ Err SolveStop.Memory → budget.new.spent ≡ budget.old.spent }
     ensures limit { budget.new.limit ≡ budget.old.limit }
 {
     let x = zeros(alloc, program.n)?;

@@ -14,8 +14,8 @@ use Rattle.live_lines.specs.Open.{Open, new_open, unmarked}
 use Rattle.limits.specs.declared.TheConstants.{MAX_BYTES, MAX_LINES}
 use Rattle.live_lines.specs.Serving.{AnsweredAll, AnsweredBefore, AnsweredLines, AnsweredSome, Counts, Ends, IsInputWithin, IsServed, IsServedInTime, Known, OfAll, OfBefore, OfLines, OfSome, TookAll, Wrote, WroteFirst, WroteSome, piece_limit}
 use Rattle.live_lines.specs.Taken.{AreWithin, IsOpenWithin, Took, with_feeds}
-use Rattle.byte_streams.specs.declared.stop.Stop.{Stop}
-use Rattle.byte_streams.specs.declared.stop.Stop.TheVariants.{ReadFault, WriteFault, TooLong, Memory}
+use Rattle.byte_streams.specs.declared.stop.IoStop.{IoStop}
+use Rattle.byte_streams.specs.declared.stop.IoStop.TheVariants.{ReadFault, WriteFault, TooLong, Memory}
 use Rattle.live_lines.proofs.Cuts.{cut_lines}
 use Rattle.live_lines.proofs.Fronts.{front_behind, whole_front}
 use Rattle.live_lines.proofs.Outputs.{alone_lines, lines_alone, lines_written, whole_output}
@@ -177,7 +177,7 @@ module _ {S : Type 0} (Answers : Answering S) (skips : Bool) (start state : S) (
         (came.text ++ last.0, whole last.0 last.1, Appends-trans written writes adds came.text last.0 came.wrote last.2),
       )
 
-  pub stops_after : (after : S) (next : Open) (stays adds : Option (List ℕ)) (r w t limit : ℕ) (e : Stop) → limit ≤ piece_limit
+  pub stops_after : (after : S) (next : Open) (stays adds : Option (List ℕ)) (r w t limit : ℕ) (e : IoStop) → limit ≤ piece_limit
       → ReadsTo Answers state line after next limit (known_of still stays writes adds) (counts_of reads r writers w takes t) (Err e)
       → Ends Answers skips start (known_of left stays written adds) (counts_of read r write w taken t) (Err e)
   stops_after after next stays adds r w t limit ReadFault low turn = (lines_after stays adds turn.0 turn.1, subst (λ n. Rose n r) came.read_calm turn.2)
@@ -282,7 +282,7 @@ not_within None P none some = some
 not_within (Some input) P none some = none some
 
 abbrev End : Type 0
-End = Result (Unit {0}) Stop
+End = Result (Unit {0}) IoStop
 
 module _ {S : Type 0} (Answers : Answering S) (skips : Bool) (start : S) (known : Known) (counts : Counts) where
   done : (e : End) → Ends Answers skips start known counts e → OnOk e (AnsweredAll Answers skips start known)
@@ -348,7 +348,7 @@ in_time_from Answers skips start left written line answers last is same h =
     (subst (λ (l : Open). IsServedInTime (Wrote Answers l.skips answers) l.skips left written last) is h)
 
 -- what the facts of what is written imply
-pub served_so : {P F G Q H I : Known → List ℕ → Type 0} (skips : Bool) (known : Known) (counts : Counts) (e : Result (Unit {0}) Stop)
+pub served_so : {P F G Q H I : Known → List ℕ → Type 0} (skips : Bool) (known : Known) (counts : Counts) (e : Result (Unit {0}) IoStop)
     → ((known : Known) (bytes : List ℕ) → P known bytes → Q known bytes) → ((known : Known) (bytes : List ℕ) → F known bytes → H known bytes)
     → ((known : Known) (bytes : List ℕ) → G known bytes → I known bytes) → IsServed P F G skips known counts e → IsServed Q H I skips known counts e
 served_so {P} {F} {G} {Q} {H} {I} skips known counts e so front first h =

@@ -11,8 +11,8 @@ use Rattle.live_lines.specs.Open.{Open}
 use Rattle.live_lines.specs.Serving.{Counts, Known}
 use Rattle.live_lines.specs.Taken.{Completes, Stops, Took}
 use Rattle.live_lines.specs.Turns.{BeganLast, BeganLines, TurnsBy, TurnsLast, TurnsTo, WroteLast}
-use Rattle.byte_streams.specs.declared.stop.Stop.{Stop}
-use Rattle.byte_streams.specs.declared.stop.Stop.TheVariants.{ReadFault, WriteFault, TooLong, Memory}
+use Rattle.byte_streams.specs.declared.stop.IoStop.{IoStop}
+use Rattle.byte_streams.specs.declared.stop.IoStop.TheVariants.{ReadFault, WriteFault, TooLong, Memory}
 
 -- these bytes came and were counted, what they complete is answered and written, and no call failed
 pub record Came {S : Type 0} (Answers : Answering S) (old : S) (line : Open) (new : S) (next : Open) (known : Known) (counts : Counts) : Type 0 where
@@ -45,7 +45,7 @@ BeganSome Answers old line known =
 
 -- what the read and the turn did together, where at most so many bytes were read: the input goes
 -- on, or ends so
-abbrev pub ReadsTo : {S : Type 0} → Answering S → S → Open → S → Open → ℕ → Known → Counts → Result Bool Stop → Type 0
+abbrev pub ReadsTo : {S : Type 0} → Answering S → S → Open → S → Open → ℕ → Known → Counts → Result Bool IoStop → Type 0
 ReadsTo Answers old line new next limit known counts (Ok true) =
     (came : Came Answers old line new next known counts) × (1 ≤ length came.bytes) × (length came.bytes ≤ limit)
 ReadsTo Answers old line new next limit known counts (Ok false) = IsOver known × WroteLast Answers old line known.written known.writes
@@ -57,7 +57,7 @@ ReadsTo Answers old line new next limit known counts (Err Memory) = BeganSome An
 
 module _ {S : Type 0} (Answers : Answering S) (old : S) (line : Open) (new : S) (next : Open) where
   -- a stop ends it
-  pub take_stops : (bytes : List ℕ) (written writes : Option (List ℕ)) (fault faults : ℕ) (e : Stop)
+  pub take_stops : (bytes : List ℕ) (written writes : Option (List ℕ)) (fault faults : ℕ) (e : IoStop)
       → BeganLines Answers old line bytes written writes → (e ≡ ReadFault → ⊥) → (e ≡ WriteFault → Rose fault faults)
       → (e ≡ TooLong → (text : List ℕ) × Appends written writes text × Stops Answers old line bytes text)
       → TurnsBy Answers old line new next bytes written writes fault faults (Err e)
@@ -66,7 +66,7 @@ module _ {S : Type 0} (Answers : Answering S) (old : S) (line : Open) (new : S) 
   take_stops bytes written writes fault faults TooLong began none rose long = long refl
   take_stops bytes written writes fault faults Memory began none rose long = began
 
-  pub last_stops : (written writes : Option (List ℕ)) (fault faults : ℕ) (e : Stop)
+  pub last_stops : (written writes : Option (List ℕ)) (fault faults : ℕ) (e : IoStop)
       → BeganLast Answers old line written writes → (e ≡ ReadFault → ⊥) → (e ≡ WriteFault → Rose fault faults) → (e ≡ TooLong → ⊥)
       → TurnsLast Answers old line written writes fault faults (Err e)
   last_stops written writes fault faults ReadFault began read rose none = read refl
@@ -75,7 +75,7 @@ module _ {S : Type 0} (Answers : Answering S) (old : S) (line : Open) (new : S) 
   last_stops written writes fault faults Memory began read rose none = began
 
   module _ (known : Known) (counts : Counts) where
-    by_bytes : (limit : ℕ) (bytes : List ℕ) (end : Result Bool Stop) → Consumes known.left known.still bytes → 1 ≤ length bytes → length bytes ≤ limit
+    by_bytes : (limit : ℕ) (bytes : List ℕ) (end : Result Bool IoStop) → Consumes known.left known.still bytes → 1 ≤ length bytes → length bytes ≤ limit
         → counts.takes ≡ raised_by counts.taken (length bytes) → counts.reads ≡ counts.read
         → TurnsBy Answers old line new next bytes known.written known.writes counts.write counts.writes end
         → ReadsTo Answers old line new next limit known counts end
@@ -99,7 +99,7 @@ module _ {S : Type 0} (Answers : Answering S) (old : S) (line : Open) (new : S) 
     by_bytes limit bytes (Ok false) gave some low counted calm h = absurd h
     by_bytes limit bytes (Err ReadFault) gave some low counted calm h = absurd h
 
-    at_end : (limit : ℕ) (end : Result Bool Stop) → IsOver known → TurnsLast Answers old line known.written known.writes counts.write counts.writes end
+    at_end : (limit : ℕ) (end : Result Bool IoStop) → IsOver known → TurnsLast Answers old line known.written known.writes counts.write counts.writes end
         → ReadsTo Answers old line new next limit known counts end
     at_end limit (Ok true) over h = absurd h
     at_end limit (Ok false) over h = (over, h)
@@ -109,7 +109,7 @@ module _ {S : Type 0} (Answers : Answering S) (old : S) (line : Open) (new : S) 
     at_end limit (Err ReadFault) over h = absurd h
 
     -- the read, and the turn by what it told
-    pub reads_to : (buf : List ℕ) (answer : ReadAnswer) (end : Result Bool Stop) → GotWithin answer (length buf) → Takes known.left known.still answer buf
+    pub reads_to : (buf : List ℕ) (answer : ReadAnswer) (end : Result Bool IoStop) → GotWithin answer (length buf) → Takes known.left known.still answer buf
         → counts.takes ≡ taken_after counts.taken answer → ReadCause counts.read counts.reads answer
         → TurnsTo Answers old line new next answer buf known.written known.writes counts.write counts.writes end
         → ReadsTo Answers old line new next (length buf) known counts end

@@ -3,8 +3,8 @@ use Rattle.std.specs.Prelude.{◌≡◌, ◌≤◌, ◌⊎◌, ℕ, List, [], �
 use Rattle.std.specs.Io.KnownBytes.{Appends}
 use Rattle.byte_streams.specs.Faults.{Rose}
 use Rattle.byte_streams.specs.Writes.{AppendsFront}
-use Rattle.byte_streams.specs.declared.stop.Stop.{Stop}
-use Rattle.byte_streams.specs.declared.stop.Stop.TheVariants.{ReadFault, WriteFault, TooLong, Memory}
+use Rattle.byte_streams.specs.declared.stop.IoStop.{IoStop}
+use Rattle.byte_streams.specs.declared.stop.IoStop.TheVariants.{ReadFault, WriteFault, TooLong, Memory}
 use Rattle.byte_streams.specs.declared.source.ReadAnswer.{ReadAnswer}
 use Rattle.byte_streams.specs.declared.source.ReadAnswer.TheVariants.{Got, End, Failed}
 use Rattle.live_lines.specs.Answering.{Answering, AnswersLine, IsLastAnswer}
@@ -44,7 +44,7 @@ BeganLines Answers old line bytes written writes = (text : List ℕ) × AppendsF
 
 -- bytes came: all lines that they complete are answered and the answers written, and the input goes
 -- on; or it ends so
-abbrev pub TurnsBy : {S : Type 0} → Answering S → S → Open → S → Open → List ℕ → Option (List ℕ) → Option (List ℕ) → ℕ → ℕ → Result Bool Stop → Type 0
+abbrev pub TurnsBy : {S : Type 0} → Answering S → S → Open → S → Open → List ℕ → Option (List ℕ) → Option (List ℕ) → ℕ → ℕ → Result Bool IoStop → Type 0
 TurnsBy Answers old line new next bytes written writes fault faults (Ok true) =
     (faults ≡ fault) × (text : List ℕ) × Appends written writes text × Took Answers old line new next bytes text
 TurnsBy Answers old line new next bytes written writes fault faults (Err TooLong) =
@@ -56,7 +56,7 @@ TurnsBy Answers old line new next bytes written writes fault faults (Ok false) =
 TurnsBy Answers old line new next bytes written writes fault faults (Err ReadFault) = ⊥
 
 -- no byte is left: the line that is left is answered
-abbrev pub TurnsLast : {S : Type 0} → Answering S → S → Open → Option (List ℕ) → Option (List ℕ) → ℕ → ℕ → Result Bool Stop → Type 0
+abbrev pub TurnsLast : {S : Type 0} → Answering S → S → Open → Option (List ℕ) → Option (List ℕ) → ℕ → ℕ → Result Bool IoStop → Type 0
 TurnsLast Answers old line written writes fault faults (Ok true) = ⊥
 TurnsLast Answers old line written writes fault faults (Ok false) = WroteLast Answers old line written writes
 TurnsLast Answers old line written writes fault faults (Err WriteFault) = Rose fault faults × BeganLast Answers old line written writes
@@ -66,7 +66,7 @@ TurnsLast Answers old line written writes fault faults (Err ReadFault) = ⊥
 
 -- so many bytes of the buffer, or none: where the read failed, nothing is answered and nothing
 -- written
-abbrev pub TurnsTo : {S : Type 0} → Answering S → S → Open → S → Open → ReadAnswer → List ℕ → Option (List ℕ) → Option (List ℕ) → ℕ → ℕ → Result Bool Stop → Type 0
+abbrev pub TurnsTo : {S : Type 0} → Answering S → S → Open → S → Open → ReadAnswer → List ℕ → Option (List ℕ) → Option (List ℕ) → ℕ → ℕ → Result Bool IoStop → Type 0
 TurnsTo Answers old line new next (Got count) buf written writes fault faults end =
     TurnsBy Answers old line new next (take count buf) written writes fault faults end
 TurnsTo Answers old line new next End buf written writes fault faults end = TurnsLast Answers old line written writes fault faults end

@@ -9,7 +9,7 @@ ghost use Rattle.live_lines.specs.Turns.{AddsAnswer, Turned};
 
 use crate::answers::LineAnswers;
 use crate::open_line::OpenLine;
-use byte_streams::{Sink, Stop, write_all};
+use byte_streams::{Sink, IoStop, write_all};
 use limits::MAX_LINES;
 use memchr::memchr;
 use std::alloc::{AllocError, Global};
@@ -76,11 +76,11 @@ pub(crate) fn take_line<A: LineAnswers>(
 }
 
 // Writes the replies where they fill a buffer, and takes them out.
-pub(crate) fn write_full<K: Sink>(replies: &mut Vec<u8>, sink: &mut K) -> Result<(), Stop>
+pub(crate) fn write_full<K: Sink>(replies: &mut Vec<u8>, sink: &mut K) -> Result<(), IoStop>
     ensures ok { OnOk result ((text : List ℕ) × (replies.old.items ≡ text ++ replies.new.items)
         × Appends (K.written sink.old) (K.written sink.new) text) }
     ensures calm { OnOk result (K.faults sink.new ≡ K.faults sink.old) }
-    ensures only { IfErr result (λ stop. stop ≡ Stop.WriteFault) }
+    ensures only { IfErr result (λ stop. stop ≡ IoStop.WriteFault) }
     ensures fault { OnErr result (Rose (K.faults sink.old) (K.faults sink.new)) }
     ensures front { OnErr result
         (AppendsFront (K.written sink.old) (K.written sink.new) replies.old.items) }

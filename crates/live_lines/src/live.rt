@@ -10,7 +10,7 @@ ghost use Rattle.live_lines.specs.Turns.{BeganLast, WroteLast};
 use crate::answering::{add_answer, take_line, write_full};
 use crate::answers::LineAnswers;
 use crate::open_line::OpenLine;
-use byte_streams::{Sink, Stop, write_all};
+use byte_streams::{Sink, IoStop, write_all};
 use std::alloc::Global;
 
 /// A way of answering lines, and the line that has not ended yet.
@@ -39,7 +39,7 @@ impl<A: LineAnswers> Live<A> {
     ///
     /// The replies are written together where they do not fill a buffer, and else at each time that
     /// they do.
-    pub fn take<K: Sink>(&mut self, alloc: Global, piece: &[u8], sink: &mut K) -> Result<(), Stop>
+    pub fn take<K: Sink>(&mut self, alloc: Global, piece: &[u8], sink: &mut K) -> Result<(), IoStop>
         requires within { IsOpenWithin self.old.line }
         requires next { A.stands self.old.line.number self.old.answers }
         ensures ok { OnOk result ((text : List ℕ)
@@ -48,11 +48,11 @@ impl<A: LineAnswers> Live<A> {
             piece.now text) }
         ensures calm { OnOk result (K.faults sink.new ≡ K.faults sink.old) }
 
-        ensures no_read_fault { result ≢ Err Stop.ReadFault }
-        ensures too_long { IsErrOf result Stop.TooLong → (text : List ℕ)
+        ensures no_read_fault { result ≢ Err IoStop.ReadFault }
+        ensures too_long { IsErrOf result IoStop.TooLong → (text : List ℕ)
             × Appends (K.written sink.old) (K.written sink.new) text
             × Stops A.answers self.old.answers self.old.line piece.now text }
-        ensures fault { IsErrOf result Stop.WriteFault →
+        ensures fault { IsErrOf result IoStop.WriteFault →
             Rose (K.faults sink.old) (K.faults sink.new) }
         ensures front { OnErr result ((text : List ℕ)
             × AppendsFront (K.written sink.old) (K.written sink.new) text
@@ -65,7 +65,7 @@ impl<A: LineAnswers> Live<A> {
             let taken = take_line(alloc, &mut self.answers, &mut self.line, rest, &mut replies)?;
             let Some(used) = taken else {
                 write_all(sink, &replies)?;
-                return Err(Stop::TooLong);
+                return Err(IoStop::TooLong);
             };
             start += used;
             write_full(&mut replies, sink)?;
@@ -75,16 +75,16 @@ impl<A: LineAnswers> Live<A> {
     }
 
     /// Answers the line that is left at the end of the input.
-    pub fn finish<K: Sink>(&mut self, alloc: Global, sink: &mut K) -> Result<(), Stop>
+    pub fn finish<K: Sink>(&mut self, alloc: Global, sink: &mut K) -> Result<(), IoStop>
         requires within { IsOpenWithin self.old.line }
         requires next { A.stands self.old.line.number self.old.answers }
         ensures ok { OnOk result (WroteLast A.answers self.old.answers self.old.line
             (K.written sink.old) (K.written sink.new)) }
         ensures calm { OnOk result (K.faults sink.new ≡ K.faults sink.old) }
 
-        ensures no_read_fault { result ≢ Err Stop.ReadFault }
-        ensures not_too_long { result ≢ Err Stop.TooLong }
-        ensures fault { IsErrOf result Stop.WriteFault →
+        ensures no_read_fault { result ≢ Err IoStop.ReadFault }
+        ensures not_too_long { result ≢ Err IoStop.TooLong }
+        ensures fault { IsErrOf result IoStop.WriteFault →
             Rose (K.faults sink.old) (K.faults sink.new) }
         ensures front { OnErr result (BeganLast A.answers self.old.answers self.old.line
             (K.written sink.old) (K.written sink.new)) }

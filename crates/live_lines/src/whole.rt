@@ -8,7 +8,7 @@ ghost use Rattle.live_lines.specs.Output.{output_of};
 
 use crate::answers::LineSteps;
 use crate::live::Live;
-use byte_streams::{Sink, Stop};
+use byte_streams::{Sink, IoStop};
 use std::alloc::Global;
 
 /// Answers all lines of an input, of which none is too long where it is at most as long as a line
@@ -24,17 +24,17 @@ pub fn answer_whole<A: LineSteps + Drop, K: Sink>(
     skips_mark: bool,
     input: &[u8],
     sink: &mut K,
-) -> Result<(), Stop>
+) -> Result<(), IoStop>
     requires first { A.stands 1 answers }
     requires few { length input.now ≤ MAX_BYTES }
     ensures ok { OnOk result (Appends (K.written sink.old) (K.written sink.new)
         (output_of A.step skips_mark answers input.now)) }
     ensures front { OnErr result (AppendsFront (K.written sink.old) (K.written sink.new)
         (output_of A.step skips_mark answers input.now)) }
-    ensures fault { IsErrOf result Stop.WriteFault →
+    ensures fault { IsErrOf result IoStop.WriteFault →
         Rose (K.faults sink.old) (K.faults sink.new) }
-    ensures no_read_fault { result ≢ Err Stop.ReadFault }
-    ensures not_too_long { result ≢ Err Stop.TooLong }
+    ensures no_read_fault { result ≢ Err IoStop.ReadFault }
+    ensures not_too_long { result ≢ Err IoStop.TooLong }
 {
     let mut live = Live::new(alloc, answers, skips_mark);
     live.take(alloc, input, sink)?;

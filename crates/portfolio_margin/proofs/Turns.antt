@@ -18,8 +18,8 @@ use Rattle.line_cover.specs.Net.{net_of}
 use Rattle.master_program.specs.Master.{zero_prices}
 use Rattle.settlement.specs.declared.position.Position.{Position}
 use Rattle.settlement.specs.Positions.{IsHeldPosition}
-use Rattle.simplex.specs.declared.stop.Stop.{Stop}
-use Rattle.simplex.specs.declared.stop.Stop.TheVariants.{Wide as WideStop, Budget as BudgetStop, Memory}
+use Rattle.simplex.specs.declared.stop.SolveStop.{SolveStop}
+use Rattle.simplex.specs.declared.stop.SolveStop.TheVariants.{Wide as WideStop, Budget as BudgetStop, Memory}
 use Rattle.simplex_run.specs.Ending.{Ending, unbounded, wide_at, on_answer, on_steps}
 use Rattle.simplex_run.proofs.Endings.{EndsWith}
 use Rattle.portfolio_margin.specs.declared.least_margin.LeastMargin.{LeastMargin}
@@ -63,12 +63,12 @@ turns_go a all i L at spent later wanted le left went =
     next_is a all i L at spent le left ∙ ap (λ (e : Ending Turn). on_answer e (on_turn (later_turns a i))) went
 
 -- where one stops, they stop
-stops_after : (e : Ending Turn) (next : Turn → ℕ → Ending Margin) (stop : Stop) (spent : ℕ) → StopsAs e stop spent → StopsAs (on_answer e next) stop spent
+stops_after : (e : Ending Turn) (next : Turn → ℕ → Ending Margin) (stop : SolveStop) (spent : ℕ) → StopsAs e stop spent → StopsAs (on_answer e next) stop spent
 stops_after e next (WideStop unit w) spent is = (ap (λ (x : Ending Turn). on_answer x next) is.0, is.1)
 stops_after e next BudgetStop spent is = ap (λ (x : Ending Turn). on_answer x next) is
 stops_after e next Memory spent is = tt
 
-pub turns_stop : (a : MarginQuestion) (all : Ending Margin) (i : ℕ) (L : Fraction) (at : List ℕ) (spent later : ℕ) (stop : Stop) → i ≤ a.budget → AreLeft a all i L at spent
+pub turns_stop : (a : MarginQuestion) (all : Ending Margin) (i : ℕ) (L : Fraction) (at : List ℕ) (spent later : ℕ) (stop : SolveStop) → i ≤ a.budget → AreLeft a all i L at spent
     → StopsAs (turn_at a L at spent) stop later → StopsAs all stop later
 turns_stop a all i L at spent later stop le left is =
     subst (λ (e : Ending Margin). StopsAs e stop later) (sym (next_is a all i L at spent le left)) (stops_after (turn_at a L at spent) (on_turn (later_turns a i)) stop later is)
@@ -136,11 +136,11 @@ margin_of ending (Unbounded ray) spent ended = ended
 margin_of ending (Wide unit wide) spent ended = absurd ended
 margin_of ending Budget spent ended = absurd ended
 
-pub wide_of : (ending : Ending Margin) (stop : Stop) (unit : ℕ) (w : Misfit) (spent units : ℕ) → stop ≡ WideStop unit w → StopsAs ending stop spent → IsMarginWith ending (Wide unit w) units
-wide_of ending stop unit w spent units is said = (subst (λ (s : Stop). StopsAs ending s spent) is said).0
+pub wide_of : (ending : Ending Margin) (stop : SolveStop) (unit : ℕ) (w : Misfit) (spent units : ℕ) → stop ≡ WideStop unit w → StopsAs ending stop spent → IsMarginWith ending (Wide unit w) units
+wide_of ending stop unit w spent units is said = (subst (λ (s : SolveStop). StopsAs ending s spent) is said).0
 
-pub budget_of : (ending : Ending Margin) (stop : Stop) (spent : ℕ) → stop ≡ BudgetStop → StopsAs ending stop spent → IsMarginWith ending Budget spent
-budget_of ending stop spent is said = subst (λ (s : Stop). StopsAs ending s spent) is said
+pub budget_of : (ending : Ending Margin) (stop : SolveStop) (spent : ℕ) → stop ≡ BudgetStop → StopsAs ending stop spent → IsMarginWith ending Budget spent
+budget_of ending stop spent is said = subst (λ (s : SolveStop). StopsAs ending s spent) is said
 
 -- whatever units are spent
 pub with_some : (ending : Ending Margin) (margin : LeastMargin) (units : ℕ) → IsMarginWith ending margin units → IsMarginOf ending margin

@@ -8,8 +8,8 @@ use Rattle.form.specs.States.{vector_of}
 use Rattle.clearing_model.specs.Certificate.{ClosesAsWritten}
 use Rattle.clearing_model.specs.Written.{WrittenTree}
 use Rattle.sign_tree.specs.Read.{node_of, placed_of}
-use Rattle.simplex.specs.declared.stop.Stop.{Stop}
-use Rattle.simplex.specs.declared.stop.Stop.TheVariants.{Wide as WideStop, Budget as BudgetStop, Memory}
+use Rattle.simplex.specs.declared.stop.SolveStop.{SolveStop}
+use Rattle.simplex.specs.declared.stop.SolveStop.TheVariants.{Wide as WideStop, Budget as BudgetStop, Memory}
 use Rattle.simplex_run.specs.Ending.{Ending, done, wide_at, no_unit_left}
 use Rattle.pricing_oracle.specs.Answers.{IsTreeAs}
 use Rattle.settlement.specs.declared.position.Position.{Position}
@@ -51,7 +51,7 @@ IsTrueOf n positions (Wide unit wide) = Unit {0}
 IsTrueOf n positions Budget = Unit {0}
 
 -- ---- parts of the run, with the units that are spent; want of memory says nothing
-abbrev pub StopsAs : {A : Type 0} → Ending A → Stop → ℕ → Type 0
+abbrev pub StopsAs : {A : Type 0} → Ending A → SolveStop → ℕ → Type 0
 StopsAs ending (WideStop unit wide) spent = (ending ≡ wide_at unit wide) × (spent ≡ unit)
 StopsAs ending BudgetStop spent = ending ≡ no_unit_left spent
 StopsAs ending Memory spent = Unit {0}
@@ -63,7 +63,7 @@ EndsAs ending (Unbounded ray) spent = ending ≡ done (endless (vector_of ray)) 
 EndsAs ending (Wide unit wide) spent = ⊥
 EndsAs ending Budget spent = ⊥
 
-abbrev pub IsEndOf : Ending Margin → Result LeastMargin Stop → ℕ → Type 0
+abbrev pub IsEndOf : Ending Margin → Result LeastMargin SolveStop → ℕ → Type 0
 IsEndOf ending (Ok margin) spent = EndsAs ending margin spent
 IsEndOf ending (Err stop) spent = StopsAs ending stop spent
 
@@ -75,7 +75,7 @@ TurnsAs ending (Ends (Wide unit wide)) spent = ⊥
 TurnsAs ending (Ends Budget) spent = ⊥
 TurnsAs ending (Goes wanted) spent = ending ≡ done (goes (fraction_of wanted.liability) (vector_of wanted.at)) spent
 
-abbrev pub IsTurnOf : Ending Turn → Result TurnOf Stop → ℕ → Type 0
+abbrev pub IsTurnOf : Ending Turn → Result TurnOf SolveStop → ℕ → Type 0
 IsTurnOf ending (Ok turn) spent = TurnsAs ending turn spent
 IsTurnOf ending (Err stop) spent = StopsAs ending stop spent
 

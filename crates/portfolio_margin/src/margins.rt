@@ -20,7 +20,7 @@ use frac::Frac128;
 use line_cover::net::net;
 use settlement::Position;
 use settlement::payouts::settlement_at;
-use simplex::{Budget, Stop};
+use simplex::{Budget, SolveStop};
 use std::alloc::{AllocError, Global};
 
 // The settlement at which the price of each underlying is 0.
@@ -40,7 +40,7 @@ fn turns(
     fills: &[Frac128],
     first: Wanted,
     budget: &mut Budget,
-) -> Result<LeastMargin, Stop>
+) -> Result<LeastMargin, SolveStop>
     requires { MayBeSearched fraction_of batch.now fills.now }
     ensures end { IsEndOf (turns_from (asked_in budget.old.limit batch.now fills.now)
         (budget.old.limit + 1) (fraction_of first.liability) (vector_of first.at)
@@ -55,7 +55,7 @@ fn turns(
             Turn::Goes(next) => wanted = next,
         }
     }
-    Err(Stop::Budget)
+    Err(SolveStop::Budget)
 }
 
 // The run over the batch of the positions.
@@ -64,7 +64,7 @@ fn least(
     batch: &Batch,
     fills: &[Frac128],
     budget: &mut Budget,
-) -> Result<LeastMargin, Stop>
+) -> Result<LeastMargin, SolveStop>
     requires asked { MayBeSearched fraction_of batch.now fills.now }
     requires unspent { budget.old.spent ≡ 0 }
     ensures end { IsEndOf (margin_run (asked_in budget.old.limit batch.now fills.now))
@@ -78,7 +78,7 @@ fn least(
             let first = Wanted { liability, at };
             turns(alloc, batch, fills, first, budget)
         }
-        Err(wide) => Err(Stop::Wide { unit: 0, wide }),
+        Err(wide) => Err(SolveStop::Wide { unit: 0, wide }),
     }
 }
 
@@ -107,9 +107,9 @@ pub fn margin_with_units(
     let mut budget = Budget::new(limit);
     match least(alloc, &batch, fills.as_slice(), &mut budget) {
         Ok(margin) => Ok((margin, budget.spent)),
-        Err(Stop::Wide { unit, wide }) => Ok((LeastMargin::Wide { unit, wide }, budget.spent)),
-        Err(Stop::Budget) => Ok((LeastMargin::Budget, budget.spent)),
-        Err(Stop::Memory) => Err(AllocError),
+        Err(SolveStop::Wide { unit, wide }) => Ok((LeastMargin::Wide { unit, wide }, budget.spent)),
+        Err(SolveStop::Budget) => Ok((LeastMargin::Budget, budget.spent)),
+        Err(SolveStop::Memory) => Err(AllocError),
     }
 }
 

@@ -15,7 +15,7 @@ use form::{Batch, State};
 use frac::{Frac128, whole};
 use line_cover::net::net;
 use pricing_oracle::{Found, search};
-use simplex::{Budget, Stop};
+use simplex::{Budget, SolveStop};
 use std::alloc::Global;
 
 /// A liability, and the settlement that wants it.
@@ -48,7 +48,7 @@ fn wanted_at(batch: &Batch, fills: &[Frac128], at: &State) -> Result<Frac128, Wi
 }
 
 // What follows a state at which the fills owe more than the liability.
-fn at_state(batch: &Batch, fills: &[Frac128], state: State, budget: &Budget) -> Result<Turn, Stop>
+fn at_state(batch: &Batch, fills: &[Frac128], state: State, budget: &Budget) -> Result<Turn, SolveStop>
     requires forms { HasItsForms batch.now }
     requires fills { length fills.now ≡ length batch.now.orders }
     requires count { state.count ≡ batch.now.underlyings + 1 }
@@ -64,7 +64,7 @@ fn at_state(batch: &Batch, fills: &[Frac128], state: State, budget: &Budget) -> 
             liability,
             at: state,
         })),
-        Err(wide) => Err(Stop::Wide {
+        Err(wide) => Err(SolveStop::Wide {
             unit: budget.spent,
             wide,
         }),
@@ -78,7 +78,7 @@ pub(crate) fn take_turn(
     fills: &[Frac128],
     wanted: Wanted,
     budget: &mut Budget,
-) -> Result<Turn, Stop>
+) -> Result<Turn, SolveStop>
     requires { MayBeSearched fraction_of batch.now fills.now }
     ensures turn { IsTurnOf (turn_at (asked_in budget.old.limit batch.now fills.now)
         (fraction_of wanted.liability) (vector_of wanted.at) budget.old.spent)

@@ -14,8 +14,8 @@ use Rattle.sign_tree.specs.declared.trees.SignTree.{SignTree}
 use Rattle.sign_tree.specs.Read.{node_of, placed_of}
 use Rattle.simplex.specs.Stops.{stop_of}
 use Rattle.simplex.specs.declared.stop.RunStop.{RunStop}
-use Rattle.simplex.specs.declared.stop.Stop.{Stop}
-use Rattle.simplex.specs.declared.stop.Stop.TheVariants.{Wide, Budget, Memory}
+use Rattle.simplex.specs.declared.stop.SolveStop.{SolveStop}
+use Rattle.simplex.specs.declared.stop.SolveStop.TheVariants.{Wide, Budget, Memory}
 use Rattle.simplex_run.specs.Ending.{Ending, done, wide_at, no_unit_left}
 use Rattle.master_program.specs.Search.{Question, Found, closed, found}
 use Rattle.search_laws.specs.Search.{IsFound}
@@ -46,14 +46,14 @@ EndsWith ending (Violated state) spent = ending ≡ done (found (vector_of state
 
 -- the answer of the call is the end of the search, and the units are those spent; want of memory
 -- says nothing
-abbrev pub IsSearchAnswer : Ending Found → Result Answer Stop → ℕ → Type 0
+abbrev pub IsSearchAnswer : Ending Found → Result Answer SolveStop → ℕ → Type 0
 IsSearchAnswer ending (Ok answer) spent = EndsWith ending answer spent
 IsSearchAnswer ending (Err (Wide unit wide)) spent = (ending ≡ wide_at unit wide) × (spent ≡ unit)
 IsSearchAnswer ending (Err Budget) spent = ending ≡ no_unit_left spent
 IsSearchAnswer ending (Err Memory) spent = Unit {0}
 
 -- what a search in given room found: its tree stands in the room where it closed
-abbrev pub found_in : SignTree → Result (Option State) RunStop → Result Answer Stop
+abbrev pub found_in : SignTree → Result (Option State) RunStop → Result Answer SolveStop
 found_in tree (Ok None) = Ok (Closed tree)
 found_in tree (Ok (Some state)) = Ok (Violated state)
 found_in tree (Err stop) = Err (stop_of stop)

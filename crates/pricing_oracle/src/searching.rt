@@ -11,7 +11,7 @@ use crate::sizes::SearchSizes;
 use exact_num::Exact;
 use form::{Batch, State};
 use sign_tree::leg_count;
-use simplex::{Budget, RunStop, Stop};
+use simplex::{Budget, RunStop, SolveStop};
 use std::alloc::Global;
 
 /// Whether the liability is enough for the fills at every state: the search of the reference run,
@@ -56,7 +56,7 @@ fn found_by<N: Exact>(
     liability: &N,
     budget: &mut Budget,
     room: &mut SearchRoom<N>,
-) -> Result<Found, Stop>
+) -> Result<Found, SolveStop>
     requires asked { MayBeSearched N.fraction batch.now fills.now }
     requires sizes { AreWithin (sizes_for batch.now budget.old.limit) room.old.sizes }
     ensures search { IsSearchAnswer (search_of
@@ -80,7 +80,7 @@ pub fn search<N: Exact>(
     fills: &[N],
     liability: &N,
     budget: &mut Budget,
-) -> Result<Found, Stop>
+) -> Result<Found, SolveStop>
     requires { MayBeSearched N.fraction batch.now fills.now }
     ensures search { IsSearchAnswer (search_of
         (question (unsigned_abs N.LIMIT) budget.old.limit batch.now (map N.fraction fills.now)

@@ -1,14 +1,14 @@
 // The certificate of a cleared batch.
 use crate::cursor::Cursor;
 use crate::items::{Item, add_items, items_of, push};
-use crate::stop::Stop;
+use crate::stop::Unread;
 use cert_check::{Cover, Mark, Measure, Points, Weighted};
 use form::State;
 use sign_tree::{Multiplier, Multipliers, Node, Nodes, SignTree};
 use std::alloc::Global;
 
 impl Item for Multiplier {
-    fn read(cursor: &mut Cursor<'_>) -> Result<Self, Stop> {
+    fn read(cursor: &mut Cursor<'_>) -> Result<Self, Unread> {
         cursor.skip(b"{\"at\":")?;
         let place = cursor.number()?;
         cursor.skip(b",\"by\":")?;
@@ -18,21 +18,21 @@ impl Item for Multiplier {
     }
 }
 
-fn state(cursor: &mut Cursor<'_>) -> Result<State, Stop> {
+fn state(cursor: &mut Cursor<'_>) -> Result<State, Unread> {
     cursor.skip(b"[")?;
     let mut entries = [0; 9];
     for i in 0..9 {
         entries[i] = cursor.whole_text()?;
         if !cursor.has(b",") {
             cursor.skip(b"]")?;
-            return State::from_entries(&entries[..=i]).ok_or(Stop::Unlike);
+            return State::from_entries(&entries[..=i]).ok_or(Unread::Unlike);
         }
     }
-    Err(Stop::Unlike)
+    Err(Unread::Unlike)
 }
 
 impl Item for Weighted {
-    fn read(cursor: &mut Cursor<'_>) -> Result<Self, Stop> {
+    fn read(cursor: &mut Cursor<'_>) -> Result<Self, Unread> {
         cursor.skip(b"{\"state\":")?;
         let state = state(cursor)?;
         cursor.skip(b",\"weight\":")?;
@@ -43,7 +43,7 @@ impl Item for Weighted {
 }
 
 // A node. The multipliers of a leaf go behind those of the leaves before it.
-fn node(cursor: &mut Cursor<'_>, multipliers: &mut Vec<Multiplier>) -> Result<Node, Stop> {
+fn node(cursor: &mut Cursor<'_>, multipliers: &mut Vec<Multiplier>) -> Result<Node, Unread> {
     if cursor.has(b"{\"split\":") {
         let place = cursor.number()?;
         cursor.skip(b"}")?;
@@ -51,14 +51,14 @@ fn node(cursor: &mut Cursor<'_>, multipliers: &mut Vec<Multiplier>) -> Result<No
     }
     cursor.skip(b"{\"leaf\":")?;
     let Ok(count) = u32::try_from(add_items(cursor, multipliers)?) else {
-        return Err(Stop::Unlike);
+        return Err(Unread::Unlike);
     };
     cursor.skip(b"}")?;
     Ok(Node::Leaf { count })
 }
 
 // A tree, whose opening bracket is behind.
-fn tree(alloc: Global, cursor: &mut Cursor<'_>) -> Result<SignTree, Stop> {
+fn tree(alloc: Global, cursor: &mut Cursor<'_>) -> Result<SignTree, Unread> {
     let mut nodes = Vec::new(alloc);
     let mut multipliers = Vec::new(alloc);
     for _ in 0..cursor.left() {
@@ -71,10 +71,10 @@ fn tree(alloc: Global, cursor: &mut Cursor<'_>) -> Result<SignTree, Stop> {
             });
         }
     }
-    Err(Stop::Unlike)
+    Err(Unread::Unlike)
 }
 
-fn cover(alloc: Global, cursor: &mut Cursor<'_>) -> Result<Cover, Stop> {
+fn cover(alloc: Global, cursor: &mut Cursor<'_>) -> Result<Cover, Unread> {
     if cursor.has(b"[") {
         return Ok(Cover::Tree(tree(alloc, cursor)?));
     }
@@ -83,7 +83,7 @@ fn cover(alloc: Global, cursor: &mut Cursor<'_>) -> Result<Cover, Stop> {
 }
 
 // The mark of a line with a certificate here, or the mark that has neither it nor a step.
-pub(crate) fn mark(alloc: Global, cursor: &mut Cursor<'_>) -> Result<Mark, Stop> {
+pub(crate) fn mark(alloc: Global, cursor: &mut Cursor<'_>) -> Result<Mark, Unread> {
     if !cursor.has(b",\"certificate\":{\"cover\":") {
         return Ok(Mark::Budget);
     }
@@ -97,10 +97,10 @@ pub(crate) fn mark(alloc: Global, cursor: &mut Cursor<'_>) -> Result<Mark, Stop>
 }
 
 // Steps over the word of a mark.
-pub(crate) fn skip_word(cursor: &mut Cursor<'_>, mark: &Mark) -> Result<(), Stop> {
+pub(crate) fn skip_word(cursor: &mut Cursor<'_>, mark: &Mark) -> Result<(), Unread> {
     match mark {
         Mark::Optimal { .. } => cursor.skip(b"\"optimal\""),
         Mark::Budget if cursor.has(b"\"budget\"") => Ok(()),
-        Mark::Budget | Mark::Wide(_) => Err(Stop::Unlike),
+        Mark::Budget | Mark::Wide(_) => Err(Unread::Unlike),
     }
 }

@@ -1,7 +1,7 @@
 // A place in a line, from which it is read on.
 ghost use Rattle.std.specs.Prelude.{◌≤◌, length};
 
-use crate::stop::Stop;
+use crate::stop::Unread;
 use exact_num::Exact;
 use frac::Frac128;
 
@@ -65,9 +65,9 @@ impl<'a> Cursor<'a> {
 
     // Steps over as many bytes as the word has. That they are the word is not looked at, since the
     // print of what is read has it.
-    pub(crate) fn skip(&mut self, word: &[u8]) -> Result<(), Stop> {
+    pub(crate) fn skip(&mut self, word: &[u8]) -> Result<(), Unread> {
         if word.len() > self.rest.len() {
-            return Err(Stop::Unlike);
+            return Err(Unread::Unlike);
         }
         self.rest = &self.rest[word.len()..];
         Ok(())
@@ -86,42 +86,42 @@ impl<'a> Cursor<'a> {
     }
 
     // A natural number of 32 bits.
-    pub(crate) fn number(&mut self) -> Result<u32, Stop> {
-        u32::try_from(self.natural()).map_err(|_| Stop::Unlike)
+    pub(crate) fn number(&mut self) -> Result<u32, Unread> {
+        u32::try_from(self.natural()).map_err(|_| Unread::Unlike)
     }
 
     // A natural number of 8 bits.
-    pub(crate) fn small(&mut self) -> Result<u8, Stop> {
-        u8::try_from(self.natural()).map_err(|_| Stop::Unlike)
+    pub(crate) fn small(&mut self) -> Result<u8, Unread> {
+        u8::try_from(self.natural()).map_err(|_| Unread::Unlike)
     }
 
     // A whole number of 64 bits.
-    pub(crate) fn entry(&mut self) -> Result<i64, Stop> {
+    pub(crate) fn entry(&mut self) -> Result<i64, Unread> {
         let is_negative = self.has(b"-");
         match i64::try_from(self.natural()) {
             Ok(size) => Ok(if is_negative { -size } else { size }),
-            Err(_) => Err(Stop::Unlike),
+            Err(_) => Err(Unread::Unlike),
         }
     }
 
     // The size of a whole number.
-    fn size(&mut self) -> Result<i128, Stop> {
+    fn size(&mut self) -> Result<i128, Unread> {
         let digits = self.digits();
         if digits.len() <= SHORT {
             return Ok(i128::from(short_value(digits)));
         }
-        i128::try_from(long_value(digits)).map_err(|_| Stop::Unlike)
+        i128::try_from(long_value(digits)).map_err(|_| Unread::Unlike)
     }
 
     // A whole number.
-    fn whole(&mut self) -> Result<i128, Stop> {
+    fn whole(&mut self) -> Result<i128, Unread> {
         let is_negative = self.has(b"-");
         let size = self.size()?;
         Ok(if is_negative && size > 0 { -size } else { size })
     }
 
     // A whole number as a text.
-    pub(crate) fn whole_text(&mut self) -> Result<i128, Stop> {
+    pub(crate) fn whole_text(&mut self) -> Result<i128, Unread> {
         self.skip(b"\"")?;
         let whole = self.whole()?;
         self.skip(b"\"")?;
@@ -129,15 +129,15 @@ impl<'a> Cursor<'a> {
     }
 
     // A fraction as a text.
-    pub(crate) fn fraction(&mut self) -> Result<Frac128, Stop> {
+    pub(crate) fn fraction(&mut self) -> Result<Frac128, Unread> {
         self.skip(b"\"")?;
         let numerator = self.whole()?;
         if self.has(b"\"") {
-            return Frac128::from_whole(numerator).map_err(|_| Stop::Unlike);
+            return Frac128::from_whole(numerator).map_err(|_| Unread::Unlike);
         }
         self.skip(b"/")?;
         let denominator = self.size()?;
         self.skip(b"\"")?;
-        Frac128::from_parts(numerator, denominator).ok_or(Stop::Unlike)
+        Frac128::from_parts(numerator, denominator).ok_or(Unread::Unlike)
     }
 }

@@ -5,7 +5,7 @@ ghost use Rattle.reply_print.specs.Within.{IsWithin};
 use crate::cursor::Cursor;
 use crate::ranges::is_within;
 use crate::replies::line_and_reply;
-use crate::stop::Stop;
+use crate::stop::Unread;
 use reply_print::Reply;
 use std::alloc::{AllocError, Global};
 
@@ -22,7 +22,7 @@ pub fn guess(alloc: Global, text: &[u8]) -> Result<Option<(u32, Reply)>, AllocEr
                 Ok(None)
             }
         }
-        Err(Stop::Unlike) => Ok(None),
-        Err(Stop::Memory) => Err(AllocError),
+        Err(Unread::Unlike) => Ok(None),
+        Err(Unread::Memory) => Err(AllocError),
     }
 }

@@ -1,27 +1,27 @@
 // The orders of a cleared batch.
 use crate::cursor::Cursor;
 use crate::items::Item;
-use crate::stop::Stop;
+use crate::stop::Unread;
 use form::{Bundle, Form, Leg, Order, Side, are_legs};
 
 // An option.
-fn form(cursor: &mut Cursor<'_>) -> Result<Form, Stop> {
+fn form(cursor: &mut Cursor<'_>) -> Result<Form, Unread> {
     cursor.skip(b"[")?;
     let mut entries = [0; 9];
     for i in 0..9 {
         entries[i] = cursor.entry()?;
         if !cursor.has(b",") {
             cursor.skip(b"]")?;
-            return Form::from_entries(&entries[..=i]).ok_or(Stop::Unlike);
+            return Form::from_entries(&entries[..=i]).ok_or(Unread::Unlike);
         }
     }
-    Err(Stop::Unlike)
+    Err(Unread::Unlike)
 }
 
-fn leg(cursor: &mut Cursor<'_>) -> Result<Leg, Stop> {
+fn leg(cursor: &mut Cursor<'_>) -> Result<Leg, Unread> {
     cursor.skip(b"{\"count\":")?;
     let Ok(count) = i16::try_from(cursor.entry()?) else {
-        return Err(Stop::Unlike);
+        return Err(Unread::Unlike);
     };
     cursor.skip(b",\"form\":")?;
     let form = form(cursor)?;
@@ -30,16 +30,16 @@ fn leg(cursor: &mut Cursor<'_>) -> Result<Leg, Stop> {
 }
 
 // The bundle of these legs, behind which their list ends.
-fn bundle_of(cursor: &mut Cursor<'_>, legs: &[Leg]) -> Result<Bundle, Stop> {
+fn bundle_of(cursor: &mut Cursor<'_>, legs: &[Leg]) -> Result<Bundle, Unread> {
     cursor.skip(b"]")?;
     if !are_legs(legs) {
-        return Err(Stop::Unlike);
+        return Err(Unread::Unlike);
     }
     Ok(Bundle::from_legs(legs))
 }
 
 // The bundle of one to four legs.
-fn legs(cursor: &mut Cursor<'_>) -> Result<Bundle, Stop> {
+fn legs(cursor: &mut Cursor<'_>) -> Result<Bundle, Unread> {
     cursor.skip(b"[")?;
     let mut legs = [leg(cursor)?; 4];
     for i in 1..4 {
@@ -52,7 +52,7 @@ fn legs(cursor: &mut Cursor<'_>) -> Result<Bundle, Stop> {
 }
 
 // A form, as version 1 has it, or the legs of version 2.
-fn bundle(cursor: &mut Cursor<'_>) -> Result<Bundle, Stop> {
+fn bundle(cursor: &mut Cursor<'_>) -> Result<Bundle, Unread> {
     if cursor.has(b",\"form\":") {
         return Ok(Bundle::one(form(cursor)?));
     }
@@ -60,7 +60,7 @@ fn bundle(cursor: &mut Cursor<'_>) -> Result<Bundle, Stop> {
     legs(cursor)
 }
 
-fn side(cursor: &mut Cursor<'_>) -> Result<Side, Stop> {
+fn side(cursor: &mut Cursor<'_>) -> Result<Side, Unread> {
     if cursor.has(b"\"buy\"") {
         return Ok(Side::Buy);
     }
@@ -69,7 +69,7 @@ fn side(cursor: &mut Cursor<'_>) -> Result<Side, Stop> {
 }
 
 impl Item for Order {
-    fn read(cursor: &mut Cursor<'_>) -> Result<Self, Stop> {
+    fn read(cursor: &mut Cursor<'_>) -> Result<Self, Unread> {
         cursor.skip(b"{\"account\":")?;
         let account = cursor.number()?;
         let bundle = bundle(cursor)?;

@@ -2,7 +2,7 @@
 use crate::certificates::{mark, skip_word};
 use crate::cursor::Cursor;
 use crate::items::{Item, items_of};
-use crate::stop::Stop;
+use crate::stop::Unread;
 use cert_check::{Claim, Mark, Outcome};
 use form::Batch;
 use frac::Frac128;
@@ -11,7 +11,7 @@ use reply_print::Reply;
 use std::alloc::Global;
 
 // An account's balance after it is told: new, or asked for.
-fn balance(cursor: &mut Cursor<'_>, account: u32) -> Result<(u32, Reply), Stop> {
+fn balance(cursor: &mut Cursor<'_>, account: u32) -> Result<(u32, Reply), Unread> {
     let balance = cursor.whole_text()?;
     cursor.skip(b",\"line\":")?;
     let line = cursor.number()?;
@@ -33,7 +33,7 @@ fn balance(cursor: &mut Cursor<'_>, account: u32) -> Result<(u32, Reply), Stop> 
 }
 
 // A reply that begins with its account.
-fn of_account(cursor: &mut Cursor<'_>) -> Result<(u32, Reply), Stop> {
+fn of_account(cursor: &mut Cursor<'_>) -> Result<(u32, Reply), Unread> {
     let account = cursor.number()?;
     if cursor.has(b",\"balance\":") {
         return balance(cursor, account);
@@ -44,7 +44,7 @@ fn of_account(cursor: &mut Cursor<'_>) -> Result<(u32, Reply), Stop> {
 }
 
 // What became of an order.
-fn of_order(cursor: &mut Cursor<'_>) -> Result<Reply, Stop> {
+fn of_order(cursor: &mut Cursor<'_>) -> Result<Reply, Unread> {
     let order = cursor.natural();
     cursor.skip(b",\"reply\":")?;
     if cursor.has(b"\"placed\"") {
@@ -53,7 +53,7 @@ fn of_order(cursor: &mut Cursor<'_>) -> Result<Reply, Stop> {
     Ok(Reply::Cancelled { order })
 }
 
-fn listed(cursor: &mut Cursor<'_>) -> Result<Reply, Stop> {
+fn listed(cursor: &mut Cursor<'_>) -> Result<Reply, Unread> {
     let market = cursor.number()?;
     cursor.skip(b",\"reply\":\"listed\",\"underlyings\":")?;
     let underlyings = cursor.small()?;
@@ -64,7 +64,7 @@ fn listed(cursor: &mut Cursor<'_>) -> Result<Reply, Stop> {
 }
 
 // A reply that begins with its line.
-fn of_line(cursor: &mut Cursor<'_>) -> Result<(u32, Reply), Stop> {
+fn of_line(cursor: &mut Cursor<'_>) -> Result<(u32, Reply), Unread> {
     let line = cursor.number()?;
     if cursor.has(b",\"order\":") {
         return Ok((line, of_order(cursor)?));
@@ -78,7 +78,7 @@ fn of_line(cursor: &mut Cursor<'_>) -> Result<(u32, Reply), Stop> {
 }
 
 // A refusal that names a field.
-fn of_field(cursor: &mut Cursor<'_>) -> Result<(u32, Reply), Stop> {
+fn of_field(cursor: &mut Cursor<'_>) -> Result<(u32, Reply), Unread> {
     let field = cursor.small()?;
     cursor.skip(b",\"line\":")?;
     let line = cursor.number()?;
@@ -87,7 +87,7 @@ fn of_field(cursor: &mut Cursor<'_>) -> Result<(u32, Reply), Stop> {
     Ok((line, Reply::Refused { number, field }))
 }
 
-fn settled(alloc: Global, cursor: &mut Cursor<'_>) -> Result<(u32, Reply), Stop> {
+fn settled(alloc: Global, cursor: &mut Cursor<'_>) -> Result<(u32, Reply), Unread> {
     let lapsed = cursor.number()?;
     cursor.skip(b",\"line\":")?;
     let line = cursor.number()?;
@@ -110,7 +110,7 @@ struct Place {
     market: u32,
 }
 
-fn place_of(cursor: &mut Cursor<'_>, mark: &Mark) -> Result<Place, Stop> {
+fn place_of(cursor: &mut Cursor<'_>, mark: &Mark) -> Result<Place, Unread> {
     cursor.skip(b",\"liability\":")?;
     let liability = cursor.fraction()?;
     cursor.skip(b",\"line\":")?;
@@ -134,7 +134,7 @@ struct End {
     units: u32,
 }
 
-fn end_of(cursor: &mut Cursor<'_>) -> Result<End, Stop> {
+fn end_of(cursor: &mut Cursor<'_>) -> Result<End, Unread> {
     cursor.skip(b",\"reply\":\"cleared\",\"surplus\":")?;
     let surplus = cursor.fraction()?;
     cursor.skip(b",\"underlyings\":")?;
@@ -149,12 +149,12 @@ fn end_of(cursor: &mut Cursor<'_>) -> Result<End, Stop> {
 }
 
 // The items of the list under a key.
-fn list_at<T: Item>(alloc: Global, cursor: &mut Cursor<'_>, key: &[u8]) -> Result<List<T>, Stop> {
+fn list_at<T: Item>(alloc: Global, cursor: &mut Cursor<'_>, key: &[u8]) -> Result<List<T>, Unread> {
     cursor.skip(key)?;
     Ok(List::from_vec(items_of(alloc, cursor)?))
 }
 
-fn cleared(alloc: Global, cursor: &mut Cursor<'_>) -> Result<(u32, Reply), Stop> {
+fn cleared(alloc: Global, cursor: &mut Cursor<'_>) -> Result<(u32, Reply), Unread> {
     let number = cursor.number()?;
     let mark = mark(alloc, cursor)?;
     let fills = list_at(alloc, cursor, b",\"fills\":")?;
@@ -183,7 +183,7 @@ fn cleared(alloc: Global, cursor: &mut Cursor<'_>) -> Result<(u32, Reply), Stop>
 }
 
 // A line and its reply.
-pub(crate) fn line_and_reply(alloc: Global, cursor: &mut Cursor<'_>) -> Result<(u32, Reply), Stop> {
+pub(crate) fn line_and_reply(alloc: Global, cursor: &mut Cursor<'_>) -> Result<(u32, Reply), Unread> {
     if cursor.has(b"{\"account\":") {
         of_account(cursor)
     } else if cursor.has(b"{\"line\":") {
@@ -195,6 +195,6 @@ pub(crate) fn line_and_reply(alloc: Global, cursor: &mut Cursor<'_>) -> Result<(
     } else if cursor.has(b"{\"field\":") {
         of_field(cursor)
     } else {
-        Err(Stop::Unlike)
+        Err(Unread::Unlike)
     }
 }

@@ -53,7 +53,7 @@ use Rattle.reply_print.specs.ReplyPieces.{reply_line}
 use Rattle.reply_print.specs.Within.{IsLine}
 use Rattle.reply_print.specs.Within as reply
 use Rattle.proposal_text.specs.declared.replies.BoundedOutcome.{BoundedOutcome}
-use Rattle.proposal_text.specs.declared.replies.StopReason.{RunStop}
+use Rattle.proposal_text.specs.declared.replies.StopReason.{StopReason}
 use Rattle.proposal_text.specs.declared.replies.FailureKind.TheVariants as failed
 use Rattle.proposal_text.specs.declared.replies.ProposalReply.TheVariants as told
 use Rattle.proposal_text.specs.declared.submissions.Submission.{Submission}

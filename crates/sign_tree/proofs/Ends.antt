@@ -15,8 +15,8 @@ use Rattle.clearing_model.specs.Written.{WrittenNode, PlacedMultiplier}
 use Rattle.sign_tree.specs.Legs.{leg_count}
 use Rattle.sign_tree.specs.Walk.{FractionLeg, walk, closes_of}
 use Rattle.sign_tree.specs.declared.closing.Left.{Left}
-use Rattle.sign_tree.specs.declared.closing.Stop.{Stop}
-use Rattle.sign_tree.specs.declared.closing.Stop.TheVariants.{Open as OpenStop, Wide as WideStop}
+use Rattle.sign_tree.specs.declared.closing.WalkStop.{WalkStop}
+use Rattle.sign_tree.specs.declared.closing.WalkStop.TheVariants.{Open as OpenStop, Wide as WideStop}
 use Rattle.sign_tree.specs.Verdict.{goes_on, is_nothing}
 
 -- with no subtree to come the walk is closed where nothing is left, and else open
@@ -25,7 +25,7 @@ walk_ends limit n legs L [] [] = refl
 walk_ends limit n legs L [] (m ∷ ms) = refl
 walk_ends limit n legs L (node ∷ nodes) ms = refl
 
-pub ends_so : (limit n : ℕ) (legs : List FractionLeg) (L : Fraction) (walked : Result Left Stop) → goes_on (λ nodes ms. walk limit n legs L nodes [] ms) walked ≡ goes_on (λ nodes ms. Ok (is_nothing nodes ms)) walked
+pub ends_so : (limit n : ℕ) (legs : List FractionLeg) (L : Fraction) (walked : Result Left WalkStop) → goes_on (λ nodes ms. walk limit n legs L nodes [] ms) walked ≡ goes_on (λ nodes ms. Ok (is_nothing nodes ms)) walked
 ends_so limit n legs L (Ok left) = walk_ends limit n legs L (map node_of left.nodes.now) (map placed_of left.multipliers.now)
 ends_so limit n legs L (Err OpenStop) = refl
 ends_so limit n legs L (Err (WideStop w)) = refl

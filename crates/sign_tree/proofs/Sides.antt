@@ -4,14 +4,14 @@ use Rattle.std.proofs.lemmas.List.{map-set, set-set, set-get_or}
 use Rattle.exact_num.specs.Fraction.{Fraction}
 use Rattle.clearing_model.specs.Tree.{Sign}
 use Rattle.clearing_model.specs.Written.{WrittenNode, SplitNode, PlacedMultiplier}
-use Rattle.sign_tree.specs.declared.closing.Stop.{Stop}
-use Rattle.sign_tree.specs.declared.closing.Stop.TheVariants.{Open as OpenStop, Wide as WideStop}
+use Rattle.sign_tree.specs.declared.closing.WalkStop.{WalkStop}
+use Rattle.sign_tree.specs.declared.closing.WalkStop.TheVariants.{Open as OpenStop, Wide as WideStop}
 use Rattle.sign_tree.specs.Read.{sign_of}
 use Rattle.sign_tree.specs.Walk.{FractionLeg, may_split, walk}
 use Rattle.sign_tree.specs.Verdict.{IsSplit, goes_on}
 
 -- a walk that ends does so whatever follows
-pub ends_alike : (f g : List WrittenNode → List PlacedMultiplier → _) (e : Stop) → goes_on f (Err e) ≡ goes_on g (Err e)
+pub ends_alike : (f g : List WrittenNode → List PlacedMultiplier → _) (e : WalkStop) → goes_on f (Err e) ≡ goes_on g (Err e)
 ends_alike f g OpenStop = refl
 ends_alike f g (WideStop w) = refl
 

@@ -36,7 +36,7 @@ struct Left<'a> {
 
 /// Why a walk ends before its subtree does.
 #[derive(Clone, Copy)]
-enum Stop {
+enum WalkStop {
     Open,
     Wide(Wide),
 }
@@ -85,14 +85,14 @@ pub fn closes(
 }
 
 /// The verdict at the end of the whole walk.
-fn verdict_of(walked: Result<Left, Stop>) -> TreeVerdict
+fn verdict_of(walked: Result<Left, WalkStop>) -> TreeVerdict
     ensures { result
         ≡ tree_verdict (goes_on (λ nodes ms. Ok (is_nothing nodes ms)) walked.entry) }
 {
     match walked {
         Ok(left) => at_end(left),
-        Err(Stop::Open) => TreeVerdict::Open,
-        Err(Stop::Wide(wide)) => TreeVerdict::Wide(wide),
+        Err(WalkStop::Open) => TreeVerdict::Open,
+        Err(WalkStop::Wide(wide)) => TreeVerdict::Wide(wide),
     }
 }
 
@@ -121,7 +121,7 @@ fn unsign(signs: &mut [i8])
 /// Walks one subtree under these signs, which stand again as before where it closes, and answers
 /// what is left.
 #[cycle(walk)]
-fn subtree<'a>(filled: &Filled, signs: &mut [i8], left: Left<'a>) -> Result<Left<'a>, Stop>
+fn subtree<'a>(filled: &Filled, signs: &mut [i8], left: Left<'a>) -> Result<Left<'a>, WalkStop>
     ensures walks { WalksTo (filled.now.entries - 1)
         (batch_legs fraction_of filled.now.orders.now filled.now.fills.now)
         (fraction_of filled.now.liability.now) (map node_of left.entry.nodes.now)
@@ -130,7 +130,7 @@ fn subtree<'a>(filled: &Filled, signs: &mut [i8], left: Left<'a>) -> Result<Left
     ensures shorter { IfOk result (λ rest. length rest.nodes.now < length left.entry.nodes.now) }
 {
     let Some((node, nodes)) = left.nodes.split_first() else {
-        return Err(Stop::Open);
+        return Err(WalkStop::Open);
     };
     let left = Left { nodes, ..left };
     match *node {
@@ -146,7 +146,7 @@ fn split<'a>(
     signs: &mut [i8],
     place: u32,
     left: Left<'a>,
-) -> Result<Left<'a>, Stop>
+) -> Result<Left<'a>, WalkStop>
     ensures walks { WalksTo (filled.now.entries - 1)
         (batch_legs fraction_of filled.now.orders.now filled.now.fills.now)
         (fraction_of filled.now.liability.now) (SplitNode place ∷ map node_of left.entry.nodes.now)
@@ -155,7 +155,7 @@ fn split<'a>(
     ensures shorter { IfOk result (λ rest. length rest.nodes.now < length left.entry.nodes.now) }
 {
     let Some(i) = split_index(filled.orders, filled.fills, signs, place) else {
-        return Err(Stop::Open);
+        return Err(WalkStop::Open);
     };
     signs[i] = 1;
     let middle = subtree(filled, signs, left)?;
@@ -166,7 +166,7 @@ fn split<'a>(
 }
 
 /// Takes the multipliers of a leaf, and answers what is left after it where it closes.
-fn leaf<'a>(filled: &Filled, signs: &[i8], count: u32, left: Left<'a>) -> Result<Left<'a>, Stop>
+fn leaf<'a>(filled: &Filled, signs: &[i8], count: u32, left: Left<'a>) -> Result<Left<'a>, WalkStop>
     ensures walks { WalksTo (filled.now.entries - 1)
         (batch_legs fraction_of filled.now.orders.now filled.now.fills.now)
         (fraction_of filled.now.liability.now) (LeafNode count ∷ map node_of left.entry.nodes.now)
@@ -175,7 +175,7 @@ fn leaf<'a>(filled: &Filled, signs: &[i8], count: u32, left: Left<'a>) -> Result
 {
     let count = count as usize;
     if count > left.multipliers.len() {
-        return Err(Stop::Open);
+        return Err(WalkStop::Open);
     }
     let (here, multipliers) = left.multipliers.split_at(count);
     match leaf_closes(filled, signs, here) {
@@ -183,8 +183,8 @@ fn leaf<'a>(filled: &Filled, signs: &[i8], count: u32, left: Left<'a>) -> Result
             multipliers,
             ..left
         }),
-        Ok(false) => Err(Stop::Open),
-        Err(wide) => Err(Stop::Wide(wide)),
+        Ok(false) => Err(WalkStop::Open),
+        Err(wide) => Err(WalkStop::Wide(wide)),
     }
 }
 

@@ -1,9 +1,9 @@
 -- The stops of a run, as those of a call.
 use Rattle.simplex.specs.declared.stop.RunStop.{RunStop}
 use Rattle.simplex.specs.declared.stop.RunStop.TheVariants.{Wide, Budget}
-use Rattle.simplex.specs.declared.stop.Stop.{Stop}
-use Rattle.simplex.specs.declared.stop.Stop.TheVariants.{Wide as WideStop, Budget as BudgetStop}
+use Rattle.simplex.specs.declared.stop.SolveStop.{SolveStop}
+use Rattle.simplex.specs.declared.stop.SolveStop.TheVariants.{Wide as WideStop, Budget as BudgetStop}
 
-abbrev pub stop_of : RunStop → Stop
+abbrev pub stop_of : RunStop → SolveStop
 stop_of (Wide unit wide) = WideStop unit wide
 stop_of Budget = BudgetStop

@@ -15,4 +15,4 @@ mod whole_run;
 
 pub use budget::Budget;
 pub use space::Space;
-pub use stop::{RunStop, Stop};
+pub use stop::{RunStop, SolveStop};

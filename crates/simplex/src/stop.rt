@@ -1,6 +1,6 @@
 //! Why a run stops.
 ghost use Rattle.std.specs.Prelude.{◌≡◌};
-ghost use Rattle.simplex.specs.declared.stop.Stop.TheVariants.{Memory};
+ghost use Rattle.simplex.specs.declared.stop.SolveStop.TheVariants.{Memory};
 ghost use Rattle.simplex.specs.Stops.{stop_of};
 
 use exact_num::Wide;
@@ -8,7 +8,7 @@ use std::alloc::AllocError;
 
 /// Why a run stopped.
 #[derive(Clone, Copy, PartialEq, Eq, Debug)]
-pub enum Stop {
+pub enum SolveStop {
     /// A step did not fit; `unit` is the number of units spent by then.
     Wide { unit: u32, wide: Wide },
     /// The run wants one unit more than the budget has.
@@ -24,21 +24,21 @@ pub enum RunStop {
     Budget,
 }
 
-impl From<AllocError> for Stop {
+impl From<AllocError> for SolveStop {
     ghost from_gives = { λ _ stop. stop ≡ Memory };
 
-    fn from(_error: AllocError) -> Stop {
-        Stop::Memory
+    fn from(_error: AllocError) -> SolveStop {
+        SolveStop::Memory
     }
 }
 
-impl From<RunStop> for Stop {
+impl From<RunStop> for SolveStop {
     ghost from_gives = { λ stopped stop. stop ≡ stop_of stopped };
 
-    fn from(stopped: RunStop) -> Stop {
+    fn from(stopped: RunStop) -> SolveStop {
         match stopped {
-            RunStop::Wide { unit, wide } => Stop::Wide { unit, wide },
-            RunStop::Budget => Stop::Budget,
+            RunStop::Wide { unit, wide } => SolveStop::Wide { unit, wide },
+            RunStop::Budget => SolveStop::Budget,
         }
     }
 }
