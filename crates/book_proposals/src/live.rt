@@ -5,7 +5,7 @@ ghost use Rattle.book_proposals.specs.LiveAnswers.{proposes};
 ghost use Rattle.book_proposals.specs.Proposing.{WroteFor, WroteFrontFor, WroteFrontOf};
 
 use crate::answers::propose_for;
-use byte_streams::{Sink, Source, IoStop};
+use byte_streams::{IoStop, Sink, Source};
 use live_lines::LineAnswers;
 use std::alloc::{AllocError, Global};
 

@@ -1,4 +1,4 @@
-use byte_streams::{MemSink, IoStop};
+use byte_streams::{IoStop, MemSink};
 use exchange_sessions::answer_messages;
 use limits::MAX_BYTES;
 use std::alloc::{AllocError, Global};

@@ -13,7 +13,7 @@ use exact_num::{Exact, Operator, Wide};
 use frac::{Frac64, Frac128};
 use fraction_tableau::MAX_SIDE;
 use linear_programs::{Program, Solved, choices, solve};
-use simplex::{Budget, RunStop, Space, SolveStop};
+use simplex::{Budget, RunStop, SolveStop, Space};
 use std::alloc::{AllocError, Global};
 use std::test::Fail;
 
@@ -24,7 +24,10 @@ fn print_numbers(text: &mut String, numbers: &[Frac128]) -> Result<(), AllocErro
     Ok(())
 }
 
-fn print_end(text: &mut String, end: &Result<Solved<Frac128>, SolveStop>) -> Result<(), AllocError> {
+fn print_end(
+    text: &mut String,
+    end: &Result<Solved<Frac128>, SolveStop>,
+) -> Result<(), AllocError> {
     match end {
         Ok(
             Solved::Optimal {

@@ -16,7 +16,7 @@ ghost use Rattle.cert_check.specs.Shape.{IsMarkOn};
 use crate::checks::{bound_holds, measure_holds, surplus_holds};
 use crate::cover::mark_covers;
 use crate::measures::Measure;
-use crate::outcome::{Verdict, Mark, FailedCondition, Outcome};
+use crate::outcome::{FailedCondition, Mark, Outcome, Verdict};
 use crate::shape::{are_fills, has_shape};
 use exact_num::Wide;
 use form::Batch;

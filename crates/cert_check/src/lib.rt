@@ -22,6 +22,6 @@ pub use checks::{bound_holds, cover_holds, measure_holds, surplus_holds};
 pub use judging::verdict;
 pub use mass::is_measure;
 pub use measures::{Measure, Points, Weighted};
-pub use outcome::{Claim, Cover, Fills, Verdict, Mark, FailedCondition, Outcome};
+pub use outcome::{Claim, Cover, FailedCondition, Fills, Mark, Outcome, Verdict};
 pub use prices::price_of;
 pub use shape::{are_fills, cover_fits, has_fills, states_have};

@@ -7,7 +7,7 @@ ghost use Rattle.exchange_program.specs.Journals.{report_in as report_is, report
 ghost use Rattle.exchange_program.specs.Requests.{status_by};
 
 use crate::status::Status;
-use byte_streams::{Sink, IoStop, write_all};
+use byte_streams::{IoStop, Sink, write_all};
 use journal_audit::audit_journal;
 use journal_check::{Report, audit_text, check_journal, text};
 use program_words::Journal;

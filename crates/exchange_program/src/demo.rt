@@ -6,7 +6,7 @@ ghost use Rattle.byte_streams.specs.Faults.{Rose};
 ghost use Rattle.byte_streams.specs.Writes.{AppendsFront};
 ghost use Rattle.program_words.specs.declared.requests.TheConstants.{MAX_DEMO_ORDERS};
 
-use byte_streams::{Sink, IoStop, write_all};
+use byte_streams::{IoStop, Sink, write_all};
 use demo_run::demo;
 use std::alloc::Global;
 

@@ -10,7 +10,7 @@ ghost use Rattle.exchange_program.specs.Live.{IsServedAs, WroteAnswers, counts_b
 
 use crate::status::Status;
 use asked_lines::AskedLines;
-use byte_streams::{Sink, Source, IoStop};
+use byte_streams::{IoStop, Sink, Source};
 use live_lines::{LineSteps, serve};
 use member_lines::MemberLines;
 use program_words::Served;

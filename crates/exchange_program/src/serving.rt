@@ -15,7 +15,7 @@ use crate::check::{MAX_JOURNAL, report_on};
 use crate::demo::write_demo;
 use crate::mode_lines::ModeLines;
 use crate::status::Status;
-use byte_streams::{Sink, Source, IoStop, read_all};
+use byte_streams::{IoStop, Sink, Source, read_all};
 use exchange_sessions::answer_messages;
 use limits::MAX_BYTES;
 use live_lines::answer_whole;

@@ -7,7 +7,7 @@ ghost use Rattle.exchange_sessions.specs.Answers.{sessions_output};
 ghost use Rattle.limits.specs.declared.TheConstants.{MAX_BYTES};
 
 use crate::run_lines::RunLines;
-use byte_streams::{Sink, IoStop};
+use byte_streams::{IoStop, Sink};
 use live_lines::answer_whole;
 use session_lines::{AnySession, SessionLines};
 use std::alloc::Global;

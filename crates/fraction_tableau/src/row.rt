@@ -8,7 +8,7 @@ ghost use Rattle.fraction_tableau.specs.Nonzero.{nonzero_places};
 
 use crate::columns::label_of;
 use crate::entries::{is_zero, less_product, list_nonzero, quotient};
-use crate::stops::{Step, ColumnStop, least_stop};
+use crate::stops::{ColumnStop, Step, least_stop};
 use exact_num::{Exact, Wide};
 
 /// Divides each entry; `places` are those where the row is not 0.

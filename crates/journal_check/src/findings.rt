@@ -9,7 +9,7 @@ ghost use Rattle.proposal_check.specs.Proposals.{bounded_verdict_of};
 ghost use Rattle.sign_tree.specs.Legs.{leg_count};
 
 use crate::Reason;
-use cert_check::{Verdict, Mark, FailedCondition, Outcome, verdict};
+use cert_check::{FailedCondition, Mark, Outcome, Verdict, verdict};
 use form::{Batch, Order};
 use frac::Frac128;
 use proposal_check::{Proposal, bounded_verdict};

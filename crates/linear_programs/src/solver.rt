@@ -10,7 +10,7 @@ use crate::program::Program;
 use crate::solved::Solved;
 use exact_num::Exact;
 use simplex::fill::zeros;
-use simplex::{Budget, Space, SolveStop};
+use simplex::{Budget, SolveStop, Space};
 use std::alloc::{AllocError, Global};
 
 /// A space in which the program is given.

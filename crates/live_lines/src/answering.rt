@@ -9,7 +9,7 @@ ghost use Rattle.live_lines.specs.Turns.{AddsAnswer, Turned};
 
 use crate::answers::LineAnswers;
 use crate::open_line::OpenLine;
-use byte_streams::{Sink, IoStop, write_all};
+use byte_streams::{IoStop, Sink, write_all};
 use limits::MAX_LINES;
 use memchr::memchr;
 use std::alloc::{AllocError, Global};

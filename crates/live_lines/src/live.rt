@@ -10,7 +10,7 @@ ghost use Rattle.live_lines.specs.Turns.{BeganLast, WroteLast};
 use crate::answering::{add_answer, take_line, write_full};
 use crate::answers::LineAnswers;
 use crate::open_line::OpenLine;
-use byte_streams::{Sink, IoStop, write_all};
+use byte_streams::{IoStop, Sink, write_all};
 use std::alloc::Global;
 
 /// A way of answering lines, and the line that has not ended yet.

@@ -8,7 +8,7 @@ ghost use Rattle.live_lines.specs.Output.{output_of};
 
 use crate::answers::LineSteps;
 use crate::live::Live;
-use byte_streams::{Sink, IoStop};
+use byte_streams::{IoStop, Sink};
 use std::alloc::Global;
 
 /// Answers all lines of an input, of which none is too long where it is at most as long as a line

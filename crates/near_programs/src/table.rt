@@ -310,52 +310,6 @@ impl Table {
         )
     }
 
-    /// Makes a column that of a variable which no row has.
-    pub fn clear_column(&mut self, column: usize) {
-        for row in self.rows.iter_mut() {
-            set_entry(row, column, 0.0);
-        }
-    }
-
-    /// Adds to a column, of which the one behind the last is the right side, what one with these
-    /// coefficients has become by the pivots: a coefficient for each row, in the order in which
-    /// they were added, and none was taken out.
-    pub fn add_column(&mut self, column: usize, coefficients: &[f64]) {
-        for (row, coefficient) in coefficients.iter().enumerate() {
-            match row.checked_sub(self.objectives) {
-                Some(added) => self.add_slack(
-                    column,
-                    self.width.saturating_add(added),
-                    *coefficient,
-                ),
-                None => self.add_at(row, column, *coefficient),
-            }
-        }
-    }
-
-    // Adds a slack's column, times a factor, to a column.
-    fn add_slack(&mut self, column: usize, slack: usize, factor: f64) {
-        if let Some(row) = self.row_of(slack) {
-            self.add_at(row, column, factor);
-        } else if let Some(from) = self.column_of(slack) {
-            for numbers in self.rows.iter_mut() {
-                let more = factor * entry(numbers, from);
-                add_entry(numbers, column, more);
-            }
-        }
-    }
-
-    fn add_at(&mut self, row: usize, column: usize, number: f64) {
-        if let Some(numbers) = self.rows.get_mut(row) {
-            add_entry(numbers, column, number);
-        }
-    }
-
-    /// The column of a variable that is not basic.
-    pub fn column_of(&self, variable: usize) -> Option<usize> {
-        self.other.iter().position(|other| *other == variable)
-    }
-
     /// The row in which a variable is basic.
     pub fn row_of(&self, variable: usize) -> Option<usize> {
         self.basic.iter().position(|basic| *basic == variable)

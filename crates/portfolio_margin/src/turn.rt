@@ -48,7 +48,12 @@ fn wanted_at(batch: &Batch, fills: &[Frac128], at: &State) -> Result<Frac128, Wi
 }
 
 // What follows a state at which the fills owe more than the liability.
-fn at_state(batch: &Batch, fills: &[Frac128], state: State, budget: &Budget) -> Result<Turn, SolveStop>
+fn at_state(
+    batch: &Batch,
+    fills: &[Frac128],
+    state: State,
+    budget: &Budget,
+) -> Result<Turn, SolveStop>
     requires forms { HasItsForms batch.now }
     requires fills { length fills.now ≡ length batch.now.orders }
     requires count { state.count ≡ batch.now.underlyings + 1 }

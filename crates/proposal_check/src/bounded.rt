@@ -8,7 +8,7 @@ ghost use Rattle.cert_check.specs.Points.{IsOnStates};
 ghost use Rattle.proposal_check.specs.Proposals.{as_fraction, compared, measured_bound};
 
 use crate::covers::BoundFailure;
-use cert_check::{Verdict, Measure, FailedCondition, bound, measure_holds};
+use cert_check::{FailedCondition, Measure, Verdict, bound, measure_holds};
 use form::Batch;
 use frac::Frac128;
 

@@ -4,7 +4,7 @@ ghost use Rattle.std.specs.Prelude.{◌≡◌};
 ghost use Rattle.proposal_check.specs.declared.covers.BoundFailure.TheVariants as unproved;
 
 use cell_cover::cover::Nodes;
-use cert_check::{Claim, Cover, Fills, Measure, FailedCondition};
+use cert_check::{Claim, Cover, FailedCondition, Fills, Measure};
 use exact_num::Wide;
 
 /// The proof that the liability of a proposal is enough.

@@ -16,9 +16,9 @@ ghost use Rattle.proposal_check.specs.ProposalLaws.{AreMet, BoundSurplus, HasBou
 
 use crate::bounded::{compared, measured_bound};
 use crate::covering::cover_shows;
-use crate::covers::{Proposal, BoundFailure};
+use crate::covers::{BoundFailure, Proposal};
 use crate::shape::has_shape;
-use cert_check::{Verdict, Measure, FailedCondition, are_fills, surplus_holds};
+use cert_check::{FailedCondition, Measure, Verdict, are_fills, surplus_holds};
 use exact_num::Wide;
 use form::Batch;
 use frac::Frac128;

@@ -10,6 +10,6 @@ pub mod judging;
 pub mod laws;
 mod shape;
 
-pub use covers::{Proposal, ProposalCover, BoundFailure};
+pub use covers::{BoundFailure, Proposal, ProposalCover};
 pub use judging::{bounded_verdict, judge_proposal};
 pub use shape::MAX_WALKED;

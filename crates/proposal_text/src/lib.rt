@@ -24,8 +24,8 @@ pub use needs::Need;
 pub use printing::print_proposal_reply;
 pub use reading::read_proposal_reply;
 pub use replies::{
-    AccountNeed, AccountReply, Bar, BoundedOutcome, FailureKind, Positions, ProposalReply, StopReason,
-    Trial, failed_as,
+    AccountNeed, AccountReply, Bar, BoundedOutcome, FailureKind, Positions, ProposalReply,
+    StopReason, Trial, failed_as,
 };
 pub use submission_text::{print_submission, read_submission};
 pub use submissions::Submission;

@@ -10,7 +10,7 @@ use cert_check::FailedCondition;
 use form::Batch;
 use frac::Frac128;
 use lists::List;
-use proposal_check::{Proposal, BoundFailure};
+use proposal_check::{BoundFailure, Proposal};
 use settlement::Position;
 
 /// The positions of an account in a market, in the order in which they were added, which contracts

@@ -9,8 +9,8 @@ ghost use Rattle.proposal_text.specs.ReplyValues.{are_bounds as bounds_are, are_
 
 use crate::needs::{need_at, size_at};
 use crate::replies::{
-    AccountNeed, AccountReply, Bar, BoundedOutcome, FailureKind, Positions, ProposalReply, StopReason,
-    Trial,
+    AccountNeed, AccountReply, Bar, BoundedOutcome, FailureKind, Positions, ProposalReply,
+    StopReason, Trial,
 };
 use crate::submission_text::proposal_from;
 use exact_num::Exact;

@@ -183,7 +183,10 @@ fn cleared(alloc: Global, cursor: &mut Cursor<'_>) -> Result<(u32, Reply), Unrea
 }
 
 // A line and its reply.
-pub(crate) fn line_and_reply(alloc: Global, cursor: &mut Cursor<'_>) -> Result<(u32, Reply), Unread> {
+pub(crate) fn line_and_reply(
+    alloc: Global,
+    cursor: &mut Cursor<'_>,
+) -> Result<(u32, Reply), Unread> {
     if cursor.has(b"{\"account\":") {
         of_account(cursor)
     } else if cursor.has(b"{\"line\":") {
