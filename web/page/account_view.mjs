@@ -100,7 +100,7 @@ export class OperatorView {
     /** @param {TradingState} state */
     show(state) {
         const rows = state.members.map(each =>
-            [each.name, each.role, each.accounts.join(", ")]);
+            [each.name, each.role, element("span", {}, each.accounts.join(", "))]);
         this.members.replaceChildren(tableElement({caption: "Members",
             head: ["name", "role", "accounts"], rows}));
         const {entries, proposals, waiting} = state.service;
