@@ -31,6 +31,15 @@ pub field_added : (old mid new : List ℕ) (later : Bool) (key : List ℕ) (p : 
     → (fs : Fields) → new ++ fields_text true fs ≡ old ++ fields_text later (field key p fs)
 field_added old mid new later key p opens e fs = ap (λ (l : List ℕ). l ++ fields_text true fs) e ∙ append_assoc mid (piece_text p) (fields_text true fs) ∙ opens p fs
 
+-- what stands behind what stands there
+pub behind : (old mid new x y : List ℕ) → mid ≡ old ++ x → new ≡ mid ++ y → new ≡ old ++ (x ++ y)
+behind old mid new x y h k = k ∙ ap (λ (l : List ℕ). l ++ y) h ∙ append_assoc old x y
+
+-- a text, ahead of which all up to its quotation mark stands, and behind which the other mark and the rest
+pub quoted_behind : (old a b new ahead text rest : List ℕ) → a ≡ old ++ ahead → b ≡ a ++ text → new ≡ b ++ 34 ∷ rest → new ≡ old ++ (ahead ++ ((text ++ 34 ∷ []) ++ rest))
+quoted_behind old a b new ahead text rest h k e =
+    behind old a new ahead (text ++ 34 ∷ rest) h (behind a b new text (34 ∷ rest) k e) ∙ ap (λ (l : List ℕ). old ++ (ahead ++ l)) (sym (append_assoc text (34 ∷ []) rest))
+
 -- an item behind its comma
 pub item_added : (old mid new comma : List ℕ) (later : Bool) (p : Piece) → comma ≡ comma_after later → mid ≡ old ++ comma → new ≡ mid ++ piece_text p
     → (ps : Pieces) → new ++ pieces_text true ps ≡ old ++ pieces_text later (piece p ps)

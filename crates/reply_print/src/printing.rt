@@ -136,6 +136,20 @@ pub fn add_number(line: &mut Vec<u8>, later: bool, key: &str, n: u64) -> Result<
     add_field(line, later, key, &n)
 }
 
+// Adds a piece, and at once all that stands before it.
+#[inline(always)]
+pub(crate) fn add_behind<P: Printed>(
+    line: &mut Vec<u8>,
+    before: &str,
+    value: &P,
+) -> Result<(), AllocError>
+    ensures { OnOk result (line.new.items
+        ≡ line.old.items ++ (before.now ++ piece_text (P.piece value.now))) }
+{
+    append(line, before)?;
+    value.print(line)
+}
+
 /// Adds a field of a plain text.
 #[inline(always)]
 pub fn add_words(line: &mut Vec<u8>, later: bool, key: &str, text: &str) -> Result<(), AllocError>

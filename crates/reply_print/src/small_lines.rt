@@ -1,9 +1,10 @@
-// Replies without lists, added to a line.
+// Replies without lists, added to a line. Most lines are such, so what stands between their numbers
+// is added at once.
 ghost use Rattle.std.specs.Prelude.{◌≡◌, ◌++◌, OnOk, false, true};
 ghost use Rattle.reply_print.specs.Piece.{Fields, fields_text, piece_text};
 ghost use Rattle.reply_print.specs.ReplyPieces.{balance_piece, field_field, listed_piece, moved_piece, opened_piece, ordered_piece, refused_piece};
 
-use crate::printing::{add_field, add_number, add_words, append};
+use crate::printing::{add_behind, add_number, append};
 use crate::words::reason;
 use std::alloc::AllocError;
 
@@ -11,11 +12,9 @@ pub(crate) fn add_opened(text: &mut Vec<u8>, line: u32, account: u32) -> Result<
     ensures { OnOk result (text.new.items
         ≡ text.old.items ++ piece_text (opened_piece line account)) }
 {
-    append(text, "{")?;
-    add_number(text, false, "account", u64::from(account))?;
-    add_number(text, true, "line", u64::from(line))?;
-    add_words(text, true, "reply", "opened")?;
-    append(text, "}")
+    add_behind(text, "{\"account\":", &u64::from(account))?;
+    add_behind(text, ",\"line\":", &u64::from(line))?;
+    append(text, ",\"reply\":\"opened\"}")
 }
 
 // An account's new balance, under the word of the reply.
@@ -29,12 +28,12 @@ pub(crate) fn add_moved(
     ensures { OnOk result (text.new.items
         ≡ text.old.items ++ piece_text (moved_piece reply.now line account balance.now)) }
 {
-    append(text, "{")?;
-    add_number(text, false, "account", u64::from(account))?;
-    add_field(text, true, "balance", balance)?;
-    add_number(text, true, "line", u64::from(line))?;
-    add_words(text, true, "reply", reply)?;
-    append(text, "}")
+    add_behind(text, "{\"account\":", &u64::from(account))?;
+    add_behind(text, ",\"balance\":", balance)?;
+    add_behind(text, ",\"line\":", &u64::from(line))?;
+    append(text, ",\"reply\":\"")?;
+    append(text, reply)?;
+    append(text, "\"}")
 }
 
 pub(crate) fn add_listed(
@@ -46,11 +45,13 @@ pub(crate) fn add_listed(
     ensures { OnOk result (text.new.items
         ≡ text.old.items ++ piece_text (listed_piece line market underlyings)) }
 {
-    append(text, "{")?;
-    add_number(text, false, "line", u64::from(line))?;
-    add_number(text, true, "market", u64::from(market))?;
-    add_words(text, true, "reply", "listed")?;
-    add_number(text, true, "underlyings", u64::from(underlyings))?;
+    add_behind(text, "{\"line\":", &u64::from(line))?;
+    add_behind(text, ",\"market\":", &u64::from(market))?;
+    add_behind(
+        text,
+        ",\"reply\":\"listed\",\"underlyings\":",
+        &u64::from(underlyings),
+    )?;
     append(text, "}")
 }
 
@@ -64,11 +65,11 @@ pub(crate) fn add_ordered(
     ensures { OnOk result (text.new.items
         ≡ text.old.items ++ piece_text (ordered_piece reply.now line order)) }
 {
-    append(text, "{")?;
-    add_number(text, false, "line", u64::from(line))?;
-    add_number(text, true, "order", order)?;
-    add_words(text, true, "reply", reply)?;
-    append(text, "}")
+    add_behind(text, "{\"line\":", &u64::from(line))?;
+    add_behind(text, ",\"order\":", &order)?;
+    append(text, ",\"reply\":\"")?;
+    append(text, reply)?;
+    append(text, "\"}")
 }
 
 pub(crate) fn add_balance(
@@ -81,12 +82,10 @@ pub(crate) fn add_balance(
     ensures { OnOk result (text.new.items
         ≡ text.old.items ++ piece_text (balance_piece line account balance.now reserved.now)) }
 {
-    append(text, "{")?;
-    add_number(text, false, "account", u64::from(account))?;
-    add_field(text, true, "balance", balance)?;
-    add_number(text, true, "line", u64::from(line))?;
-    add_words(text, true, "reply", "balance")?;
-    add_field(text, true, "reserved", reserved)?;
+    add_behind(text, "{\"account\":", &u64::from(account))?;
+    add_behind(text, ",\"balance\":", balance)?;
+    add_behind(text, ",\"line\":", &u64::from(line))?;
+    add_behind(text, ",\"reply\":\"balance\",\"reserved\":", reserved)?;
     append(text, "}")
 }
 
@@ -115,8 +114,8 @@ pub(crate) fn add_refused(
     append(text, "{")?;
     add_place(text, is_range, field)?;
     add_number(text, is_range, "line", u64::from(line))?;
-    add_number(text, true, "number", u64::from(number))?;
-    add_words(text, true, "reason", reason(number))?;
-    add_words(text, true, "reply", "refused")?;
-    append(text, "}")
+    add_behind(text, ",\"number\":", &u64::from(number))?;
+    append(text, ",\"reason\":\"")?;
+    append(text, reason(number))?;
+    append(text, "\",\"reply\":\"refused\"}")
 }
