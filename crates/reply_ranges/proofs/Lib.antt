@@ -11,7 +11,6 @@ pub mod Lines
 pub mod Within
 pub mod Reports
 pub mod Runs
-pub mod Owed
 pub mod Margins
 pub mod Texts
 pub mod Others

@@ -4,13 +4,13 @@ use Rattle.std.specs.Prelude.{Result, Ok, Err, IfSome, nat_le, unwrap_or}
 use Rattle.std.specs.List.{All}
 use Rattle.std.proofs.lemmas.Bool.{leb-true}
 use Rattle.std.proofs.lemmas.Int.{ints}
-use Rattle.std.proofs.lemmas.List.Elements.{All-nil, All-cons, All-head, All-tail, All-filter, All-map, All-replicate, recursion_from_All}
+use Rattle.std.proofs.lemmas.List.Elements.{All-nil, All-cons, All-head, All-tail, All-filter, All-map, All-replicate, All-weaker, recursion_from_All}
 use Rattle.exact_num.specs.Fraction.{Fraction, whole}
 use Rattle.exact_num.specs.Fits.{div_of}
 use Rattle.exchange_core.specs.ExchangeState.{ExchangeState}
+use Rattle.exchange_core.specs.Kept.{IsKept, IsPositionKept}
 use Rattle.exchange_core.specs.Held.{is_held_by, markets_of, underlyings_in}
 use Rattle.form.specs.declared.orders.Order.{Order}
-use Rattle.form.specs.Limits.{IsOrderWithin}
 use Rattle.form.specs.Payoff.{bundle_of, scale_of}
 use Rattle.form.specs.Steps.{bundle_payoff_of}
 use Rattle.frac.specs.Range.{limit as largest}
@@ -35,11 +35,10 @@ use Rattle.reply_print.specs.Within as reply
 use Rattle.form.specs.StateOf.{state_of}
 use Rattle.run_values.specs.Values.{AreValues, Ends, IsReadingOf, IsPointOf, IsSmall, IsSmallState, IsValue}
 use Rattle.run_values.proofs.Numbers.{Has, after_has, answer_ends, div_has, fold_has, for_side_has, steps_end, whole_value, zero_value}
-use Rattle.run_values.proofs.Payoffs.{bundle_has, legs_small, scale_small}
+use Rattle.run_values.proofs.Payoffs.{HasListed, bundle_has, legs_small, scale_small}
 use Rattle.run_values.proofs.Readings.{IsFillOf, fills_are}
 use Rattle.run_values.proofs.Searches.{search_ends}
 use Rattle.reply_ranges.proofs.Outcomes.{state_small}
-use Rattle.reply_ranges.proofs.Owed.{AreOwed, IsOwedWithin}
 
 -- ---- what a run of a margin ends with
 abbrev IsMarginOf : Margin → Type 0
@@ -50,7 +49,7 @@ abbrev IsTurnOf : Turn → Type 0
 IsTurnOf (ends margin) = IsMarginOf margin
 IsTurnOf (goes L at) = IsValue L × IsSmallState at
 
-module _ (budget n : ℕ) (orders : List Order) (fills : List Fraction) (within : All IsOrderWithin orders) (are : AreValues fills) where
+module _ (budget n : ℕ) (orders : List Order) (fills : List Fraction) (listed : All HasListed orders) (are : AreValues fills) where
   abbrev asked : MarginQuestion
   asked = record { limit = largest; budget = budget; underlyings = n; orders = orders; fills = fills }
 
@@ -60,7 +59,7 @@ module _ (budget n : ℕ) (orders : List Order) (fills : List Fraction) (within 
       (λ total fill is of.
       after_has IsValue IsValue (bundle_payoff_of largest (bundle_of fill.0) z) _ (bundle_has (bundle_of fill.0) z (legs_small fill.0 of.0) small)
       (λ h pays. for_side_has total fill.0.side fill.1 h is of.1 pays))
-      (whole (pos 0)) (zip orders fills) zero_value (fills_are orders fills within are)
+      (whole (pos 0)) (zip orders fills) zero_value (fills_are HasListed orders fills listed are)
 
   some_scale : (t : ℕ) → nat_eq t 0 ≡ false → pos t ≢ pos 0
   some_scale zero e = cc
@@ -94,7 +93,7 @@ module _ (budget n : ℕ) (orders : List Order) (fills : List Fraction) (within 
 
   turn_ends : (L : Fraction) (at : List ℕ) (spent : ℕ) → IsValue L → IsSmallState at → Ends IsTurnOf (turn_at asked L at spent)
   turn_ends L at spent v small =
-      answer_ends _ IsTurnOf (search (question_of asked L) spent) (on_found asked L at) (search_ends budget n orders (read_as L) within (read_of L v) spent)
+      answer_ends _ IsTurnOf (search (question_of asked L) spent) (on_found asked L at) (search_ends budget n orders (read_as L) listed (read_of L v) spent)
       (found_turns _ (λ z of. of) L at small)
 
   turned : (next : Fraction → List ℕ → ℕ → Ending Margin) → ((L : Fraction) (at : List ℕ) (spent : ℕ) → IsValue L → IsSmallState at → Ends IsMarginOf (next L at spent))
@@ -134,12 +133,13 @@ fills_values (p ∷ ps) =
     let below = p.fill.below_fits in
     All-cons IsValue (fill_of p) (fills_of ps) (record { lowest = p.fill.lowest; small = record { above = omega (arith, above); below = omega (arith, below) } }) (fills_values ps)
 
-pub margin_within : (state : ExchangeState) (account market budget : ℕ) → AreOwed state → IsMarginWithin (told_of (run_in state account market budget))
-margin_within state account market budget owed =
+pub margin_within : (state : ExchangeState) (account market budget : ℕ) → IsKept state → IsMarginWithin (told_of (run_in state account market budget))
+margin_within state account market budget kept =
     let held = held_by state account market in
     told_within (run_in state account market budget)
     (run_ends budget (underlyings_in state.book market) (orders_of held) (fills_of held)
-    (All-map IsOrderWithin order_of held (All-filter (is_held_by account market) IsOwedWithin state.positions owed)) (fills_values held))
+    (All-map HasListed order_of held (All-filter (is_held_by account market) (λ p. HasListed (order_of p)) state.positions
+    (All-weaker (IsPositionKept state.accounts state.book.markets) (λ p. HasListed (order_of p)) (λ p k. k.options) state.positions kept.positions))) (fills_values held))
 
 -- ---- needs
 sum_within : (whole : ℕ) (b : Bool) → nat_le whole largest ≡ b → IsNeedWithin (need_as (if b then needed.Amount whole else needed.Sum))

@@ -74,14 +74,12 @@ use Rattle.reply_ranges.proofs.Refusals.{IsOne, IsTold, first_told}
 use Rattle.reply_ranges.proofs.States.{IsRanged}
 use Rattle.reply_ranges.proofs.StepReplies.{reply_within}
 use Rattle.reply_ranges.proofs.Margins.{margin_within, need_within}
-use Rattle.reply_ranges.proofs.Owed.{AreOwed}
 use Rattle.reply_ranges.proofs.Texts.{IsServedText, asked_text, proposal_text, run_text}
 
 -- an exchange before the line behind so many
 pub record IsStanding (lines : ℕ) (state : ExchangeState) : Type 0 where
   pub running : IsRunning state
   pub ranged : IsRanged lines state
-  pub owed : AreOwed state
 
 -- ---- prices
 quote_price : (batch : Batch) (order : Order) (budget : ℕ) (told : Quoted) → Tells batch order budget told → IsPriceWithin (price_of told)
@@ -220,7 +218,7 @@ module _ (lines number : ℕ) (few : lines + 1 ≤ MAX_LINES) (is_line : IsLine 
       by None none =
           subst (λ l. IsServedText (l ++ 10 ∷ [])) (same_margin number request margin_of)
           (asked_text number (told.Margin request.account request.market margin_of)
-          (is_line, (within.account, within.market, margin_within state request.account request.market request.budget stands.owed)))
+          (is_line, (within.account, within.market, margin_within state request.account request.market request.budget stands.running.kept)))
 
   pub said_served : (said : Result Request Fault) → IfOk said RequestIsWithin → IsPlacedIn said → IsServedText (said_line number state said).0
   said_served (Ok (asks.Command command)) within placed = plain_served (body.Command command) within tt

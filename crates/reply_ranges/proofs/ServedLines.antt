@@ -42,7 +42,6 @@ use Rattle.reply_ranges.proofs.Within.{line_ranged}
 use Rattle.reply_ranges.proofs.Fields.{IsPlacedIn, said_is_placed}
 use Rattle.reply_ranges.proofs.Kept.{AreKeptWithin, IsBestWithin}
 use Rattle.reply_ranges.proofs.Others.{IsStanding, said_served}
-use Rattle.reply_ranges.proofs.Owed.{IsOwedWithin, charged_owed, reply_owed}
 use Rattle.reply_ranges.proofs.Proposals.{book_served, clear_served, positions_served, proposed_in, proposed_served, settle_served, trial_served}
 use Rattle.reply_ranges.proofs.Texts.{IsServedText}
 
@@ -59,12 +58,12 @@ empty_stands = record {
   lines = 0;
   counted = refl;
   sound = empty_is_sound;
-  exchange = record { running = empty_runs; ranged = empty_is_ranged; owed = All-nil IsOwedWithin };
+  exchange = record { running = empty_runs; ranged = empty_is_ranged };
   kept = All-nil (Has IsBestWithin);
 }
 
 later_exchange : (lines more : ℕ) (exchange : ExchangeState) → lines ≤ more → IsStanding lines exchange → IsStanding more exchange
-later_exchange lines more exchange le stands = record { running = stands.running; ranged = more_lines lines more exchange le stands.ranged; owed = stands.owed }
+later_exchange lines more exchange le stands = record { running = stands.running; ranged = more_lines lines more exchange le stands.ranged }
 
 -- and before a later one, where nothing comes between
 pub still : (number later : ℕ) (state : ProposingState) → number ≤ later → Stands number state → Stands later state
@@ -93,7 +92,6 @@ module _ (lines : ℕ) (state : ProposingState) (line : InputLine) (sound : IsSo
       record {
         running = step_runs exchange (reply_to exchange said) running (body_steps exchange said within running.kept running.traders);
         ranged = line_ranged lines exchange said within running stands.ranged;
-        owed = reply_owed lines exchange running stands.ranged stands.owed said;
       }
 
   charged_stands : (market budget : ℕ) (better : BoundedOutcome) → refusal_of exchange (Clear market budget) ≡ None → IsCovered (batch_in exchange market) (as_outcome better.proposal)
@@ -108,7 +106,6 @@ module _ (lines : ℕ) (state : ProposingState) (line : InputLine) (sound : IsSo
       record {
         running = step_runs exchange (cleared_as exchange market outcome) running steps;
         ranged = charged_ranged lines exchange running stands.ranged market fills may are;
-        owed = charged_owed lines exchange running stands.ranged stands.owed market fills may are;
       }
 
   told_stands : (answer : ProposalAnswer) (after : ProposingState) → IsToldFor state line answer after → KeepsProposalPromises answer → IsStanding (lines + 1) after.exchange

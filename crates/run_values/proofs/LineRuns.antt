@@ -22,7 +22,7 @@ use Rattle.master_program.specs.Solve.{master_solve}
 use Rattle.simplex_run.specs.Ending.{done, where_fits}
 use Rattle.run_values.specs.Values.{Ends, IsReadingOf, IsSmall, IsSmallState, IsValue}
 use Rattle.run_values.proofs.Numbers.{Has, Nothing, after_has, all_has, answer_ends, fold_has, for_side_has, less_product_has, steps_end, then_has, whole_value, zero_value}
-use Rattle.run_values.proofs.Payoffs.{IsEntry, IsLegSmall, bundle_has, legs_small, scale_small, quotient_small}
+use Rattle.run_values.proofs.Payoffs.{HasListed, IsEntry, IsLegSmall, all_listed, bundle_has, legs_small, scale_small, quotient_small}
 use Rattle.run_values.proofs.Readings.{IsFillOf, fills_are, solve_has, sums_have}
 
 two_small : (t s : ℕ) → t ≤ largest → s ≤ largest → IsSmallState (t ∷ s ∷ [])
@@ -59,7 +59,7 @@ of_legs (leg ∷ legs) small = by (breakpoint_of leg.option) (break_small leg.op
 legs_of : (orders : List Order) → All IsOrderWithin orders → All IsLegSmall (legs_of_orders orders)
 legs_of [] within = All-nil IsLegSmall
 legs_of (order ∷ orders) within =
-    All-append IsLegSmall (bundle_of order) (legs_of_orders orders) (legs_small order (All-head IsOrderWithin order orders within)) (legs_of orders (All-tail IsOrderWithin order orders within))
+    All-append IsLegSmall (bundle_of order) (legs_of_orders orders) (legs_small order (All-head IsOrderWithin order orders within).options) (legs_of orders (All-tail IsOrderWithin order orders within))
 
 breaks_small : (orders : List Order) → All IsOrderWithin orders → All IsSmallState (breakpoints_of orders)
 breaks_small orders within = of_legs (legs_of_orders orders) (legs_of orders within)
@@ -115,5 +115,5 @@ line_run_has left spent orders within =
     answer_ends IsReadingOf IsReadingOf (master_solve largest largest left spent 1 orders (later_states orders)) (where_fits (sums_hold largest orders))
     (solve_has left spent 1 orders (later_states orders) within (later_small orders within))
     (λ r units of. steps_end Nothing IsReadingOf units (sums_hold largest orders r) (λ b. done r units)
-    (sums_have orders r (line_holds largest (zip orders r.fills) orders r.liability) within of (line_has orders r.fills r.liability within (fills_are orders r.fills within of.fills) of.liability))
+    (sums_have orders r (line_holds largest (zip orders r.fills) orders r.liability) within of (line_has orders r.fills r.liability within (fills_are HasListed orders r.fills (all_listed orders within) of.fills) of.liability))
     (λ b h. of))

@@ -26,15 +26,15 @@ unfolding cost_steps
 cost_has order within =
     let cheap = within.price in
     after_has IsValue IsValue (whole_of largest (pos order.price)) _ (whole_has (pos order.price) (omega (arith, ints, cheap)))
-    (λ price p. after_has IsValue IsValue (whole_of largest (payoff_at_zero order)) _ (whole_has (payoff_at_zero order) (at_zero_small order within))
+    (λ price p. after_has IsValue IsValue (whole_of largest (payoff_at_zero order)) _ (whole_has (payoff_at_zero order) (at_zero_small order within.options))
     (λ first f. after_has IsValue IsValue (sub_of largest price first) _ (sub_has price first p f) (λ cost c. signed_value order.side cost c)))
 
 entry_has : (z : List ℕ) (order : Order) → IsSmallState z → IsOrderWithin order → Has IsValue (entry_steps largest largest z order)
 unfolding entry_steps
 entry_has z order small within =
-    after_has IsValue IsValue (order_payoff largest order z) _ (order_has order z within small)
+    after_has IsValue IsValue (order_payoff largest order z) _ (order_has order z within.options small)
     (λ payoff p. after_has IsValue IsValue (whole_of largest (pos (scale_of z))) _ (whole_has (pos (scale_of z)) (scale_small z small))
-    (λ t s. after_has IsValue IsValue (whole_of largest (payoff_at_zero order)) _ (whole_has (payoff_at_zero order) (at_zero_small order within))
+    (λ t s. after_has IsValue IsValue (whole_of largest (payoff_at_zero order)) _ (whole_has (payoff_at_zero order) (at_zero_small order within.options))
     (λ first f. after_has IsValue IsValue (mul_of largest t first) _ (mul_has t first s f)
     (λ aside a. after_has IsValue IsValue (whole_of largest payoff.numerator) _ (whole_has payoff.numerator p.small.above)
     (λ owed o. after_has IsValue IsValue (sub_of largest owed aside) _ (sub_has owed aside o a) (λ entry e. signed_value order.side entry e))))))

@@ -15,7 +15,6 @@ use Rattle.exact_num.specs.Tests.{is_above_zero}
 use Rattle.frac.specs.Range.{limit as largest}
 use Rattle.form.specs.declared.orders.Order.{Order}
 use Rattle.form.specs.declared.orders.Side.{Side}
-use Rattle.form.specs.Limits.{IsOrderWithin}
 use Rattle.form.specs.Payoff.{BundleLeg, bundle_of}
 use Rattle.form.specs.Primitive.{common_divisor, common_multiple_of, multiple_with, multiples_of, primitive_of, primitive_vector}
 use Rattle.form.specs.Vector.{positive_part, scale_of}
@@ -33,7 +32,7 @@ use Rattle.simplex_run.specs.Places.{fraction_zero}
 use Rattle.run_values.specs.Values.{AreValues, Ends, IsPlacedOf, IsSmall, IsSmallState, IsValue}
 use Rattle.run_values.proofs.Masters.{HasValues, IsUnit, units_are}
 use Rattle.run_values.proofs.Numbers.{Has, Nothing, after_has, fold_has, for_side_has, less_product_has, map_has, mul_has, negated_value, plus_product_has, sub_has, whole_has, whole_value, zero_value}
-use Rattle.run_values.proofs.Payoffs.{IsEntry, IsLegSmall, legs_small, order_has, scale_small, part_small, quotient_small}
+use Rattle.run_values.proofs.Payoffs.{HasListed, IsEntry, IsLegSmall, legs_small, order_has, scale_small, part_small, quotient_small}
 use Rattle.run_values.proofs.Readings.{IsFillOf, fills_are}
 
 -- ---- legs
@@ -53,8 +52,8 @@ all_legs (fill ∷ fills) of =
     let one = All-head IsFillOf fill fills of in
     All-append IsLegOf (legs_of_order fill) (flat_map legs_of_order fills) (bundle_legs_are fill.0.side fill.1 (bundle_of fill.0) one.1 (legs_small fill.0 one.0)) (all_legs fills (All-tail IsFillOf fill fills of))
 
-pub legs_are : (orders : List Order) (fills : List Fraction) → All IsOrderWithin orders → AreValues fills → All IsLegOf (fraction_legs orders fills)
-legs_are orders fills within are = all_legs (zip orders fills) (fills_are orders fills within are)
+pub legs_are : (orders : List Order) (fills : List Fraction) → All HasListed orders → AreValues fills → All IsLegOf (fraction_legs orders fills)
+legs_are orders fills listed are = all_legs (zip orders fills) (fills_are HasListed orders fills listed are)
 
 -- four legs for an order at most
 few_legs : (order : Order) (fill : Fraction) → length (legs_of_order (order, fill)) ≤ 4

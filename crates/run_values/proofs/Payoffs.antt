@@ -13,7 +13,7 @@ use Rattle.form.specs.declared.legs.Leg.{Leg}
 use Rattle.form.specs.declared.limits.TheConstants.{MAX_WEIGHT}
 use Rattle.form.specs.declared.orders.Order.{Order}
 use Rattle.form.specs.Limits.{IsListed, IsOrderWithin}
-use Rattle.form.specs.Payoff.{BundleLeg, bundle_of, leg_of, legs_in}
+use Rattle.form.specs.Payoff.{BundleLeg, bundle_of, leg_of, legs_in, option_of}
 use Rattle.form.specs.Steps.{add_entry, add_leg, bundle_payoff_of, or_zero, payoff_of}
 use Rattle.form.specs.Vector.{over_legs, positive_part, scale_of}
 use Rattle.form.proofs.SameBundle.{length-bundle_legs}
@@ -44,13 +44,20 @@ entries_small (a ∷ v) listed =
     let first = listed.strike in
     All-cons IsEntry a v (omega (arith, first)) (All-weaker (λ (w : ℤ). unsigned_abs w ≤ MAX_WEIGHT) IsEntry (λ w low. omega (arith, low)) v listed.weights)
 
-pub legs_small : (order : Order) → IsOrderWithin order → All IsLegSmall (bundle_of order)
+-- an order whose options may be listed
+abbrev pub HasListed : Order → Type 0
+HasListed order = All (λ (leg : Leg). IsListed (option_of leg.form)) (legs_in order.bundle)
+
+pub all_listed : (orders : List Order) → All IsOrderWithin orders → All HasListed orders
+all_listed orders within = All-weaker IsOrderWithin HasListed (λ order one. one.options) orders within
+
+pub legs_small : (order : Order) → HasListed order → All IsLegSmall (bundle_of order)
 unfolding bundle_of
-legs_small order within =
+legs_small order listed =
     let P : Leg → Type 0 = λ leg. IsLegSmall (leg_of leg) in
     let legs = legs_in order.bundle in
     let counts = order.bundle.counted in
-    All-map IsLegSmall leg_of legs (λ k d inside. record { count = (counts k d inside).1; entries = entries_small _ (within.options k d inside) })
+    All-map IsLegSmall leg_of legs (λ k d inside. record { count = (counts k d inside).1; entries = entries_small _ (listed k d inside) })
 
 -- ---- payoffs
 abbrev IsTerm : ℤ × ℕ → Type 0
@@ -83,9 +90,9 @@ bundle_has legs z small state =
     (λ h pays. plus_product_has total (whole leg.count) h is (whole_value leg.count (let low = one.count in omega (arith, low))) pays))
     (whole (pos 0)) legs zero_value small
 
-pub order_has : (order : Order) (z : List ℕ) → IsOrderWithin order → IsSmallState z → Has IsValue (order_payoff largest order z)
+pub order_has : (order : Order) (z : List ℕ) → HasListed order → IsSmallState z → Has IsValue (order_payoff largest order z)
 unfolding order_payoff
-order_has order z within small = bundle_has (bundle_of order) z (legs_small order within) small
+order_has order z listed small = bundle_has (bundle_of order) z (legs_small order listed) small
 
 pub scale_small : (z : List ℕ) → IsSmallState z → scale_of z ≤ largest
 scale_small [] small = omega arith
@@ -104,6 +111,6 @@ legs_at_zero (leg ∷ legs) small =
     let size = unsigned_abs-mul leg.count (pos (strike_payoff leg.option)) in
     omega (arith, ints, first, size, legs_at_zero legs (All-tail IsLegSmall leg legs small))
 
-pub at_zero_small : (order : Order) → IsOrderWithin order → unsigned_abs (payoff_at_zero order) ≤ largest
+pub at_zero_small : (order : Order) → HasListed order → unsigned_abs (payoff_at_zero order) ≤ largest
 unfolding payoff_at_zero bundle_of
-at_zero_small order within = omega (arith, legs_at_zero (bundle_of order) (legs_small order within), length-bundle_legs order.bundle, order.bundle.size_in_range.1)
+at_zero_small order listed = omega (arith, legs_at_zero (bundle_of order) (legs_small order listed), length-bundle_legs order.bundle, order.bundle.size_in_range.1)

@@ -30,20 +30,23 @@ use Rattle.simplex_run.specs.Run.{Optimum, optimum, run}
 use Rattle.run_values.specs.Values.{AreValues, Ends, IsPointOf, IsReadingOf, IsSmall, IsSmallState, IsValue}
 use Rattle.run_values.proofs.Masters.{HasValues, master_has}
 use Rattle.run_values.proofs.Numbers.{Has, Nothing, add_has, after_has, answer_ends, fold_has, for_side_has, plus_product_has, signed_value, steps_end, sub_has, then_has, whole_has, whole_value, zero_value}
-use Rattle.run_values.proofs.Payoffs.{at_zero_small, bundle_has, legs_small, scale_small}
+use Rattle.run_values.proofs.Payoffs.{HasListed, all_listed, at_zero_small, bundle_has, legs_small, scale_small}
 use Rattle.run_values.proofs.Runs.{IsOptimumOf, at_value, run_has}
 
 -- ---- what is read off
 -- an order with its fill
-abbrev pub IsFillOf : Order × Fraction → Type 0
-IsFillOf fill = IsOrderWithin fill.0 × IsValue fill.1
+abbrev IsFillBy : (Order → Type 0) → Order × Fraction → Type 0
+IsFillBy P fill = P fill.0 × IsValue fill.1
 
-pub fills_are : (orders : List Order) (fills : List Fraction) → All IsOrderWithin orders → AreValues fills → All IsFillOf (zip orders fills)
-fills_are [] fills within are = All-nil IsFillOf
-fills_are (order ∷ orders) [] within are = All-nil IsFillOf
-fills_are (order ∷ orders) (fill ∷ fills) within are =
-    All-cons IsFillOf (order, fill) (zip orders fills) (All-head IsOrderWithin order orders within, All-head IsValue fill fills are)
-    (fills_are orders fills (All-tail IsOrderWithin order orders within) (All-tail IsValue fill fills are))
+abbrev pub IsFillOf : Order × Fraction → Type 0
+IsFillOf = IsFillBy HasListed
+
+pub fills_are : (P : Order → Type 0) (orders : List Order) (fills : List Fraction) → All P orders → AreValues fills → All (IsFillBy P) (zip orders fills)
+fills_are P [] fills all are = All-nil (IsFillBy P)
+fills_are P (order ∷ orders) [] all are = All-nil (IsFillBy P)
+fills_are P (order ∷ orders) (fill ∷ fills) all are =
+    All-cons (IsFillBy P) (order, fill) (zip orders fills) (All-head P order orders all, All-head IsValue fill fills are)
+    (fills_are P orders fills (All-tail P order orders all) (All-tail IsValue fill fills are))
 
 owed_has : (total : Fraction) (fill : Order × Fraction) → IsValue total → IsFillOf fill → Has IsValue (add_owed largest total fill)
 unfolding add_owed
@@ -55,7 +58,7 @@ liability_has : (orders : List Order) (fills : List Fraction) (slack : Fraction)
 unfolding liability_of
 liability_has orders fills slack within are is =
     after_has IsValue IsValue (owed_of largest (zip orders fills)) _
-    (fold_has IsValue IsFillOf (add_owed largest) owed_has fraction_zero (zip orders fills) zero_value (fills_are orders fills within are))
+    (fold_has IsValue IsFillOf (add_owed largest) owed_has fraction_zero (zip orders fills) zero_value (fills_are HasListed orders fills (all_listed orders within) are))
     (λ owed o. add_has owed slack o is)
 
 pairs_are : (states : List (List ℕ)) (ys : List Fraction) → All IsSmallState states → AreValues ys → All IsPointOf (zip states ys)
@@ -94,13 +97,13 @@ solve_has left spent n orders states within small =
     (λ o units is. steps_end IsReadingOf IsReadingOf units (reading_at largest (zero_prices n) orders states o) (λ reading. done reading units) (reading_has (zero_prices n) orders states o (zero_small n) within small is) (λ reading r. r))
 
 -- ---- the sums of the verdict
-premium_has : (fills : List (Order × Fraction)) → All IsFillOf fills → Has IsValue (premium_of largest fills)
+premium_has : (fills : List (Order × Fraction)) → All (IsFillBy IsOrderWithin) fills → Has IsValue (premium_of largest fills)
 premium_has fills all =
-    fold_has IsValue IsFillOf (add_premium largest)
+    fold_has IsValue (IsFillBy IsOrderWithin) (add_premium largest)
     (λ total fill is of. let cheap = of.0.price in for_side_has total fill.0.side fill.1 (whole (pos fill.0.price)) is of.1 (whole_value (pos fill.0.price) (omega (arith, ints, cheap))))
     (whole (pos 0)) fills zero_value all
 
-surplus_has : (fills : List (Order × Fraction)) (L S : Fraction) → All IsFillOf fills → IsValue L → Has Nothing (surplus_holds largest fills L S)
+surplus_has : (fills : List (Order × Fraction)) (L S : Fraction) → All (IsFillBy IsOrderWithin) fills → IsValue L → Has Nothing (surplus_holds largest fills L S)
 surplus_has fills L S all is =
     after_has IsValue Nothing (premium_of largest fills) _ (premium_has fills all)
     (λ premium p. after_has IsValue Nothing (sub_of largest premium L) (λ left. Ok (is_claimed S left)) (sub_has premium L p is) (λ left l. tt))
@@ -120,7 +123,7 @@ mass_has points all = by (are_weights points)
 price_has : (order : Order) (points : List Point) → IsOrderWithin order → All IsPointOf points → Has IsValue (price_of largest (bundle_of order) points)
 price_has order points within all =
     fold_has IsValue IsPointOf (add_price largest (bundle_of order))
-    (λ total point is of. after_has IsValue IsValue _ (λ h. plus_product largest total point.1 h) (bundle_has (bundle_of order) point.0 (legs_small order within) of.0) (λ h pays. plus_product_has total point.1 h is of.1 pays))
+    (λ total point is of. after_has IsValue IsValue _ (λ h. plus_product largest total point.1 h) (bundle_has (bundle_of order) point.0 (legs_small order within.options) of.0) (λ h pays. plus_product_has total point.1 h is of.1 pays))
     (whole (pos 0)) points zero_value all
 
 gain_has : (side : Side) (limit price : Fraction) → IsValue limit → IsValue price → Has IsValue (gain_at largest side limit price)
@@ -151,5 +154,5 @@ bound_has orders points S within all =
 -- with those of the cover
 pub sums_have : (orders : List Order) (r : Reading) (covers : Result Bool Wide) → All IsOrderWithin orders → IsReadingOf r → Has Nothing covers → Has Nothing (sums_with largest orders r covers)
 sums_have orders r covers within of h =
-    then_has (surplus_holds largest (zip orders r.fills) r.liability r.surplus) _ (surplus_has (zip orders r.fills) r.liability r.surplus (fills_are orders r.fills within of.fills) of.liability)
+    then_has (surplus_holds largest (zip orders r.fills) r.liability r.surplus) _ (surplus_has (zip orders r.fills) r.liability r.surplus (fills_are IsOrderWithin orders r.fills within of.fills) of.liability)
     (then_has covers _ h (then_has (measure_holds largest r.measure) (bound_holds largest orders r.measure r.surplus) (mass_has r.measure of.points) (bound_has orders r.measure r.surplus within of.points)))

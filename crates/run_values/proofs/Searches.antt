@@ -24,6 +24,7 @@ use Rattle.run_values.specs.Values.{Ends, IsPlacedOf, IsReadingOf, IsSmall, IsSm
 use Rattle.run_values.proofs.Masters.{HasValues}
 use Rattle.run_values.proofs.Nodes.{IsShown, excess_has, leaf_has, legs_are, legs_few, node_count, node_has, place_ends, primitive_has, split_low}
 use Rattle.run_values.proofs.Numbers.{answer_ends, steps_end}
+use Rattle.run_values.proofs.Payoffs.{HasListed, all_listed}
 use Rattle.run_values.proofs.Readings.{fills_are, solve_has}
 use Rattle.run_values.proofs.Runs.{IsOptimumOf, run_has}
 
@@ -32,7 +33,7 @@ IsFound k (closed tree) = IsTreeOf k tree
 IsFound k (found z) = IsSmallState z
 
 -- ---- one question
-module _ (budget n : ℕ) (orders : List Order) (r : Reading) (within : All IsOrderWithin orders) (of : IsReadingOf r) where
+module _ (budget n : ℕ) (orders : List Order) (r : Reading) (listed : All HasListed orders) (of : IsReadingOf r) where
   abbrev pub q : Question
   q = question_of (limits_of largest budget) n orders r
 
@@ -48,7 +49,7 @@ module _ (budget n : ℕ) (orders : List Order) (r : Reading) (within : All IsOr
 
   state_ends : (node : List NodeLeg) (spent : ℕ) (z : List ℕ) → length node ≤ k → IsSmallState z → Ends (IsShown k) (on_state q node spent z)
   state_ends node spent z few small =
-      steps_end IsValue (IsShown k) spent (excess_at q z) (on_excess q node spent z) (excess_has (zip orders r.fills) r.liability z (fills_are orders r.fills within of.fills) of.liability small)
+      steps_end IsValue (IsShown k) spent (excess_at q z) (on_excess q node spent z) (excess_has (zip orders r.fills) r.liability z (fills_are HasListed orders r.fills listed of.fills) of.liability small)
       (λ excess e. excess_ends node spent z few small excess)
 
   optimum_ends : (node : List NodeLeg) (o : Optimum) (spent : ℕ) → length node ≤ k → IsOptimumOf o → Ends (IsShown k) (on_optimum q node o spent)
@@ -67,7 +68,7 @@ module _ (budget n : ℕ) (orders : List Order) (r : Reading) (within : All IsOr
 
       by : (b : Bool) → Ends (IsShown k) (if b then on_steps (spent + 1) (program_at q signs) (on_program q (node_at q signs) (spent + 1)) else no_unit_left spent)
       by true =
-          steps_end HasValues (IsShown k) (spent + 1) (program_at q signs) (on_program q (node_at q signs) (spent + 1)) (node_has n (legs_in q) r.liability signs (legs_are orders r.fills within of.fills) of.liability)
+          steps_end HasValues (IsShown k) (spent + 1) (program_at q signs) (on_program q (node_at q signs) (spent + 1)) (node_has n (legs_in q) r.liability signs (legs_are orders r.fills listed of.fills) of.liability)
           (λ p has. answer_ends IsOptimumOf (IsShown k) (run largest p (budget - (spent + 1)) (spent + 1)) (on_optimum q (node_at q signs)) (run_has p (budget - (spent + 1)) (spent + 1) has)
           (λ o units is. optimum_ends (node_at q signs) o units few is))
       by false = tt
@@ -139,7 +140,7 @@ rounds_from_ends budget n orders (suc left) states spent few within small =
     (λ r units of.
     let asked = question_of (limits_of largest budget) n orders r in
     let k : ℕ = length (legs_in asked) in
-    answer_ends (IsFound k) IsClearedOf (search asked units) _ (search_ends budget n orders r within of units)
+    answer_ends (IsFound k) IsClearedOf (search asked units) _ (search_ends budget n orders r (all_listed orders within) of units)
     (found_ends r k (λ z units. rounds_from (limits_of largest budget) n orders left (states ++ (z ∷ [])) units) of (omega (arith, few, legs_few orders r.fills))
     (λ z units one. rounds_from_ends budget n orders left (states ++ (z ∷ [])) units few within (All-append IsSmallState states (z ∷ []) small (All-cons IsSmallState z [] one (All-nil IsSmallState))))))
 

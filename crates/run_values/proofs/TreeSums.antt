@@ -25,7 +25,7 @@ use Rattle.simplex_run.specs.Ending.{done, where_fits}
 use Rattle.run_values.specs.Values.{Ends, IsPlacedOf, IsTreeOf, IsValue}
 use Rattle.run_values.proofs.Nodes.{IsLegOf, entry_low, legs_are, less_has, read_entry}
 use Rattle.run_values.proofs.Numbers.{Has, Nothing, after_has, all_has, answer_ends, fold_has, less_product_has, mul_has, plus_product_has, steps_end, then_has, whole_value, zero_value}
-use Rattle.run_values.proofs.Payoffs.{IsEntry, part_small}
+use Rattle.run_values.proofs.Payoffs.{IsEntry, all_listed, part_small}
 use Rattle.run_values.proofs.Readings.{sums_have}
 use Rattle.run_values.proofs.Searches.{IsClearedOf, rounds_end}
 
@@ -142,7 +142,7 @@ sums_are : (n : ℕ) (orders : List Order) (c : Cleared) → All IsOrderWithin o
 sums_are n orders (r, tree) within of =
     let legs = fraction_legs orders r.fills in
     sums_have orders r (closes_of largest n legs r.liability (nodes_of tree) (multipliers_of tree)) within of.0
-    (walk_has n legs r.liability (nodes_of tree) (replicate (length legs) Unsigned ∷ []) (multipliers_of tree) (legs_are orders r.fills within of.0.fills) of.0.liability (by_values 1024 tree of.1))
+    (walk_has n legs r.liability (nodes_of tree) (replicate (length legs) Unsigned ∷ []) (multipliers_of tree) (legs_are orders r.fills (all_listed orders within) of.0.fills) of.0.liability (by_values 1024 tree of.1))
 
 pub tree_run_ends : (budget n spent : ℕ) (orders : List Order) → length orders ≤ MAX_ORDERS → All IsOrderWithin orders → Ends IsClearedOf (tree_run (limits_of largest budget) n orders spent)
 unfolding tree_run
