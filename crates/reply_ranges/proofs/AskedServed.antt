@@ -1,5 +1,5 @@
 -- What is asked between lines of `serve` is told by a sound line.
-use Rattle.std.proofs.Common.{◌≡◌, ◌≤◌, ℕ, ◌+◌, arith, List, [], ◌∷◌, ◌++◌, Bool, true, false, if◌then◌else◌, Result, Ok, Err, refl, subst}
+use Rattle.std.proofs.Common.{◌≡◌, ℕ, List, [], ◌∷◌, ◌++◌, Bool, true, false, if◌then◌else◌, Result, Ok, Err, refl, subst}
 use Rattle.std.specs.Prelude.{IfOk}
 use Rattle.asked_lines.specs.Requests.{may_be_asked}
 use Rattle.command_text.specs.declared.asked.Fault.{Fault}
@@ -10,7 +10,6 @@ use Rattle.command_text.specs.declared.words.TheConstants.{SERVED}
 use Rattle.command_text.specs.Said.{said_in}
 use Rattle.command_text.specs.Within.{RequestIsWithin}
 use Rattle.command_text.proofs.ReadWithin.{said_is_within}
-use Rattle.limits.specs.declared.TheConstants.{MAX_LINES}
 use Rattle.proposal_lines.specs.Asked.{if_proposed}
 use Rattle.proposal_lines.specs.Proposed.{proposed_of}
 use Rattle.proposal_lines.specs.declared.proposed.Proposed.{Proposed}
@@ -28,13 +27,7 @@ use Rattle.reply_print.specs.Within.{IsLine}
 use Rattle.reply_ranges.proofs.SecuredServed.{StandsSecured, said_served}
 use Rattle.reply_ranges.proofs.Texts.{IsServedText, proposal_text}
 
-module _ (number : ℕ) (state : SecuredState) (few : number ≤ MAX_LINES) (stands : StandsSecured number state) where
-  some_room : stands.lines + 1 ≤ MAX_LINES
-  some_room = omega (arith, few, stands.counted)
-
-  is_line : IsLine number
-  is_line = (omega (arith, stands.counted), few)
-
+module _ (number : ℕ) (is_line : IsLine number) (state : SecuredState) (stands : StandsSecured number state) where
   -- by what a bar refuses
   pub barred_served : (bar : Bar) → IsServedText (proposal_line number (Barred bar) ++ 10 ∷ [])
   barred_served NotAllowed = proposal_text number (Barred NotAllowed) (is_line, tt) tt
@@ -44,14 +37,14 @@ module _ (number : ℕ) (state : SecuredState) (few : number ≤ MAX_LINES) (sta
   module _ (line : List ℕ) where
     fault_served : (fault : Fault) → IsPlaced fault → IsServedText (secured_said number state line (Err fault)).0
     fault_served fault placed =
-        others.said_served stands.lines number some_room is_line (exchange_in state) stands.exchange (Err fault) tt placed
+        others.said_served number is_line (exchange_in state) stands.exchange (Err fault) tt placed
 
     -- a line that is no proposal
     request_served : (request : Request) → said_in SERVED line ≡ Ok request → IsServedText (asked_said number state line (Ok request))
     request_served request is = by (may_be_asked request)
       where
         by : (b : Bool) → IsServedText (if b then (secured_said number state line (Ok request)).0 else not_asked number)
-        by true = (said_served number state few stands line (Ok request) is (subst (λ (said : Result Request Fault). IfOk said RequestIsWithin) is (said_is_within SERVED line))).0
+        by true = (said_served number is_line state stands line (Ok request) is (subst (λ (said : Result Request Fault). IfOk said RequestIsWithin) is (said_is_within SERVED line))).0
         by false = barred_served NotAsked
 
     proposes_served : (request : ProposeRequest) (proposed : Result Proposed Fault) → IsPlacedIn proposed → IsServedText (asked_said number state line (if_proposed request proposed))

@@ -1,8 +1,8 @@
 -- Between lines some may ask: what is told is sound, and what is left stands before the next line.
-use Rattle.std.proofs.Common.{◌≡◌, ◌≤◌, ◌<◌, ℕ, ◌+◌, ◌-◌, List, [], ◌∷◌, ◌++◌, Bool, true, false, if◌then◌else◌, subst, arith}
+use Rattle.std.proofs.Common.{◌≡◌, ℕ, ◌+◌, ◌-◌, List, [], ◌∷◌, ◌++◌, Bool, true, false, if◌then◌else◌, subst, arith}
 use Rattle.asked_lines.specs.Asked.{AskedState, asked_by, asked_step, asking_first, is_question, other_step, question_step}
 use Rattle.asked_lines.specs.Standing.{StandsAsked}
-use Rattle.limits.specs.declared.TheConstants.{MAX_LINES}
+use Rattle.reply_print.specs.Within.{IsLine}
 use Rattle.reply_ranges.proofs.Reports.{IsAccepted}
 use Rattle.reply_ranges.proofs.Runs.{IsAnswered}
 
@@ -14,8 +14,8 @@ pub record IsOneLine (bytes : List ℕ) : Type 0 where
 
 module _ {S : Type 0} (ask : ℕ → S → List ℕ → List ℕ) (step : ℕ → S → List ℕ → List ℕ × S) (Stands : ℕ → S → Type 0)
     (passes : (number : ℕ) (state : S) → Stands number state → Stands (number + 1) state)
-    (tells : (number : ℕ) (state : S) (body : List ℕ) → number ≤ MAX_LINES → Stands number state → IsOneLine (ask number state body))
-    (answers : (number : ℕ) (state : S) (line : List ℕ) → number ≤ MAX_LINES → Stands number state → IsAnswered (Stands (number + 1)) (step number state line)) where
+    (tells : (number : ℕ) (state : S) (body : List ℕ) → IsLine number → Stands number state → IsOneLine (ask number state body))
+    (answers : (number : ℕ) (state : S) (line : List ℕ) → IsLine number → Stands number state → IsAnswered (Stands (number + 1)) (step number state line)) where
   pub none_asked : (start : S) → Stands 1 start → StandsAsked Stands 1 (asking_first start)
   none_asked start h = (omega arith, h)
 
@@ -34,13 +34,13 @@ module _ {S : Type 0} (ask : ℕ → S → List ℕ → List ℕ) (step : ℕ �
     pub passes_asked : StandsAsked Stands (number + 1) state
     passes_asked = (omega (arith, h.0), subst (λ n. Stands n state.inner) goes (passes own state.inner h.1))
 
-    module _ (few : number ≤ MAX_LINES) (line : List ℕ) where
-      few_own : own ≤ MAX_LINES
-      few_own = omega (arith, few)
+    module _ (is_line : IsLine number) (line : List ℕ) where
+      own_line : IsLine own
+      own_line = (omega (arith, h.0), omega (arith, is_line.1))
 
       question_answered : IsAnswered (StandsAsked Stands (number + 1)) (question_step ask number state line)
       question_answered =
-          let told = tells own state.inner (asked_by line) few_own h.1 in
+          let told = tells own state.inner (asked_by line) own_line h.1 in
           record {
             text = told.text;
             is = told.is;
@@ -50,7 +50,7 @@ module _ {S : Type 0} (ask : ℕ → S → List ℕ → List ℕ) (step : ℕ �
 
       other_answered : IsAnswered (StandsAsked Stands (number + 1)) (other_step step number state line)
       other_answered =
-          let told = answers own state.inner line few_own h.1 in
+          let told = answers own state.inner line own_line h.1 in
           record {
             text = told.text;
             is = told.is;

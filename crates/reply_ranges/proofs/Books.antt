@@ -1,5 +1,5 @@
 -- Live orders are told as a book that `propose` takes, and what it writes is taken.
-use Rattle.std.proofs.Common.{◌≡◌, ℕ, ◌+◌, ◌≤◌, ◌==◌, List, [], ◌∷◌, ◌++◌, Ok, refl, sym, ap, ◌∙◌, subst, inl, inr, arith}
+use Rattle.std.proofs.Common.{◌≡◌, ℕ, ◌+◌, ◌==◌, List, [], ◌∷◌, ◌++◌, Ok, refl, sym, ap, ◌∙◌, subst, inl, inr, arith}
 use Rattle.std.specs.Prelude.{IfOk}
 use Rattle.std.specs.Option.{option_map_or}
 use Rattle.std.proofs.lemmas.List.{same_from_push}
@@ -13,8 +13,7 @@ use Rattle.command_text.proofs.ReadWithin.{said_is_within}
 use Rattle.exchange_core.specs.Step.{batch_in}
 use Rattle.exchange_lines.specs.LineSteps.{InputLine}
 use Rattle.form.specs.declared.orders.Batch.{Batch}
-use Rattle.limits.specs.declared.TheConstants.{MAX_LINES}
-use Rattle.reply_print.specs.Within.{IsMarket}
+use Rattle.reply_print.specs.Within.{IsLine, IsMarket}
 use Rattle.reply_print.proofs.Ascii.{piece_has_no_feed}
 use Rattle.proposal_text.specs.Pieces.{proposal_line, proposal_piece}
 use Rattle.proposal_text.specs.declared.replies.ProposalReply.TheVariants as told
@@ -45,24 +44,23 @@ use Rattle.reply_ranges.proofs.States.{batch_is_within, live_ranged}
 
 -- ---- before a line of an input
 reached : (low : ℕ) (state : SecuredState) (before later : List InputLine) (line : InputLine) → StandsSecured (low + 1) state → AreCounted low (before ++ line ∷ later)
-    → StandsSecured line.number (state_by_lines state before) × (line.number ≤ MAX_LINES)
-reached low state [] later line stands counted = let above = counted.0 in (still (low + 1) line.number state.serving.proposing (omega (arith, above)) stands, counted.1)
+    → StandsSecured line.number (state_by_lines state before) × IsLine line.number
+reached low state [] later line stands counted = let above = counted.0 in (still (low + 1) line.number state.serving.proposing (omega (arith, above)) stands, (omega (arith, above), counted.1))
 reached low state (first ∷ before) later line stands counted =
     let above = counted.0 in
     let here = still (low + 1) first.number state.serving.proposing (omega (arith, above)) stands in
-    reached first.number (secured_line first.number state first.bytes).1 before later line (secured_answers first.number state counted.1 here first.bytes).1 counted.2
+    reached first.number (secured_line first.number state first.bytes).1 before later line (secured_answers first.number (omega (arith, above), counted.1) state here first.bytes).1 counted.2
 
 -- ---- what is told
-module _ (number : ℕ) (state : SecuredState) (few : number ≤ MAX_LINES) (stands : StandsSecured number state) (market : ℕ) (tells : TellsLive state market) where
+module _ (number : ℕ) (is_line : IsLine number) (state : SecuredState) (stands : StandsSecured number state) (market : ℕ) (tells : TellsLive state market) where
   abbrev live : Batch
   live = batch_in (exchange_in state) market
 
   as_book : IsMarket market → IsReadAsBook (proposal_line number (told.Book market live)) market live
   as_book listed =
-      let batch = live_ranged stands.lines (exchange_in state) stands.exchange.running stands.exchange.ranged market tells in
+      let batch = live_ranged number (exchange_in state) stands.exchange market tells in
       let reply = told.Book market live in
-      let some = stands.counted in
-      let within : IsProposalLineWithin number reply = ((omega (arith, some), few), (listed, batch_is_within (exchange_in state).book.accepted live batch, batch.within.ids_rise)) in (
+      let within : IsProposalLineWithin number reply = (is_line, (listed, batch_is_within (exchange_in state).book.accepted live batch, batch.within.ids_rise)) in (
         list_any_none (λ b. b == 10) (proposal_line number reply) (piece_has_no_feed 6 (proposal_piece number reply) (reply_written number reply within)),
         book_is_whole number market live,
         record { number = number; told = (within, refl); within = batch.within },
@@ -81,8 +79,8 @@ books_are_told input before later line market within is asks tells =
     let state = state_by_lines empty_secured before in
     let now = reached 0 empty_secured before later line empty_stands (subst (AreCounted 0) is (inputs_counted input within)) in (
       proposal_line line.number (told.Book market (batch_in (exchange_in state) market)),
-      tells_book line.number state now.1 now.0 market tells line.bytes asks,
-      as_book line.number state now.1 now.0 market tells (listed_in line.bytes market asks),
+      tells_book line.number now.1 state now.0 market tells line.bytes asks,
+      as_book line.number now.1 state now.0 market tells (listed_in line.bytes market asks),
     )
 
 -- ---- what is proposed for it

@@ -5,7 +5,6 @@ pub mod States
 pub mod StepReplies
 pub mod Units
 pub mod Outcomes
-pub mod CommandRuns
 pub mod Accepted
 pub mod Lines
 pub mod Within

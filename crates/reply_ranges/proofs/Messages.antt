@@ -1,5 +1,5 @@
 -- Each line that is written for a message is sound, and what is left stands before the next one.
-use Rattle.std.proofs.Common.{◌≡◌, ℕ, ◌+◌, ◌<◌, ◌≤◌, List, [], ◌∷◌, ◌++◌, Bool, true, false, ◌&&◌, not, cond, nat_eq, ◌==◌, pos, Option, Some, None, option_and_then, inr, codes, decimal, if◌then◌else◌, refl, sym, ap, ◌∙◌, subst, append_assoc, length, length-append, ◌-◌, arith}
+use Rattle.std.proofs.Common.{◌≡◌, ℕ, ◌+◌, ◌<◌, List, [], ◌∷◌, ◌++◌, Bool, true, false, ◌&&◌, not, cond, nat_eq, ◌==◌, pos, Option, Some, None, option_and_then, inr, codes, decimal, if◌then◌else◌, refl, sym, ap, ◌∙◌, subst, append_assoc, length, length-append, ◌-◌, arith}
 use Rattle.std.specs.Prelude.{IfSome}
 use Rattle.std.specs.List.{list_all}
 use Rattle.std.proofs.lemmas.Bool.{and_parts}
@@ -15,7 +15,7 @@ use Rattle.form.specs.Between.{Between}
 use Rattle.exchange_lines.proofs.RunStates.{same}
 use Rattle.session_gate.specs.declared.answer.Answer.{Answer}
 use Rattle.session_gate.specs.declared.answer.Answer.TheVariants.{First, Repeat, Old, Ahead, Changed, Sessions}
-use Rattle.limits.specs.declared.TheConstants.{MAX_MESSAGE, MAX_SESSION, MAX_LINES}
+use Rattle.limits.specs.declared.TheConstants.{MAX_MESSAGE, MAX_SESSION}
 use Rattle.session_gate.specs.Answers.{answer_by, answer_to, has_kept_body, is_ahead, is_last, is_old, is_one_too_many}
 use Rattle.session_gate.specs.Bodies.{is_body}
 use Rattle.session_gate.specs.Gate.{KnownSessions, LastAccepted, Message, accepted_as, kept_of, message_of, next_number, keep}
@@ -169,17 +169,14 @@ without_it text = take_at text (10 ∷ []) (length (text ++ 10 ∷ []) - 1) (ome
 -- a body is answered by a sound line of `serve`, and what is left stands before the next one
 abbrev pub AnswersBodies : {S : Type 0} → BodyStep S → (ℕ → S → Type 0) → Type 0
 AnswersBodies {S} step Stands =
-    (session number : ℕ) (state : S) (body : List ℕ) → number ≤ MAX_LINES → Stands number state
+    (session number : ℕ) (state : S) (body : List ℕ) → IsLine number → Stands number state
     → IsServedText (step session number state body).0 × Stands (number + 1) (step session number state body).1
 
 -- ---- what is written for a line
 module _ {S : Type 0} (step : BodyStep S) (Stands : ℕ → S → Type 0) (each : AnswersBodies step Stands)
-    (number : ℕ) (state : SessionsState S) (few : number ≤ MAX_LINES) (before : StandsBefore Stands number state) where
+    (number : ℕ) (is_line : IsLine number) (state : SessionsState S) (before : StandsBefore Stands number state) where
   abbrev IsTold : List ℕ × SessionsState S → Type 0
   IsTold = IsAnswered (StandsBefore Stands (number + 1))
-
-  is_line : IsLine number
-  is_line = let lt = before.served in (omega (arith, lt), few)
 
   pub gate_told : (refused : GateLine) → IsGateWithin refused → (text : List ℕ) → text ≡ gate_line number refused ++ 10 ∷ [] → IsTold (text, state)
   gate_told refused within text is = record {
@@ -216,7 +213,7 @@ module _ {S : Type 0} (step : BodyStep S) (Stands : ℕ → S → Type 0) (each 
   first_told message is =
       let lt = before.served in
       let n = state.0.served + 1 in
-      let answer = each message.session n state.1 message.body (omega (arith, lt, few)) before.stands in
+      let answer = each message.session n state.1 message.body (omega arith, omega (arith, lt, is_line.1)) before.stands in
       let own = answer.0 in
       let now = step message.session n state.1 message.body in
       let reply = without_feed now.0 in

@@ -1,5 +1,5 @@
 -- What is written for what a line says where nothing is read or proposed is sound.
-use Rattle.std.proofs.Common.{◌≡◌, ℕ, ◌+◌, ◌≤◌, List, [], ◌∷◌, ◌++◌, Bool, true, false, ◌||◌, Option, Some, None, Result, Ok, Err, if◌then◌else◌, refl, subst, arith}
+use Rattle.std.proofs.Common.{◌≡◌, ℕ, List, [], ◌∷◌, ◌++◌, Bool, true, false, ◌||◌, Option, Some, None, Result, Ok, Err, if◌then◌else◌, refl, subst, arith}
 use Rattle.std.specs.Prelude.{IfOk, IfSome}
 use Rattle.std.specs.List.{All}
 use Rattle.std.specs.Option.{option_map_or}
@@ -40,7 +40,6 @@ use Rattle.guarded_lines.specs.Needs.{need_in}
 use Rattle.guarded_lines.specs.Replies.{covered_reply_to, guarded_reply_line, guarded_reply_to, plain_reply_to}
 use Rattle.guarded_lines.specs.Told.{margin_line}
 use Rattle.guarded_lines.specs.Withdrawals.{covers, is_refused, left_in, uncovered_by, uncovered_command}
-use Rattle.exchange_lines.proofs.RunStates.{IsRunning}
 use Rattle.option_quotes.specs.declared.prices.MarketPrices.{MarketPrices}
 use Rattle.option_quotes.specs.declared.prices.MarketPrices.TheVariants as market
 use Rattle.option_quotes.specs.declared.prices.SidePrice.{SidePrice}
@@ -67,19 +66,13 @@ use Rattle.lists.specs.Refusals.{first_of}
 use Rattle.lists.proofs.FirstRefusal.{none_in_both}
 use Rattle.reply_print.specs.ReplyPieces.{reply_line}
 use Rattle.reply_print.specs.Within.{IsLine}
-use Rattle.limits.specs.declared.TheConstants.{MAX_LINES}
 use Rattle.reply_ranges.specs.Laws.{HasField}
 use Rattle.reply_ranges.proofs.Fields.{IsPlacedIn}
 use Rattle.reply_ranges.proofs.Refusals.{IsOne, IsTold, first_told}
-use Rattle.reply_ranges.proofs.States.{IsRanged}
+use Rattle.reply_ranges.proofs.States.{IsStanding}
 use Rattle.reply_ranges.proofs.StepReplies.{reply_within}
 use Rattle.reply_ranges.proofs.Margins.{margin_within, need_within}
 use Rattle.reply_ranges.proofs.Texts.{IsServedText, asked_text, proposal_text, run_text}
-
--- an exchange before the line behind so many
-pub record IsStanding (lines : ℕ) (state : ExchangeState) : Type 0 where
-  pub running : IsRunning state
-  pub ranged : IsRanged lines state
 
 -- ---- prices
 quote_price : (batch : Batch) (order : Order) (budget : ℕ) (told : Quoted) → Tells batch order budget told → IsPriceWithin (price_of told)
@@ -147,7 +140,7 @@ same_margin number request margin.Wide = refl
 same_margin number request margin.Budget = refl
 
 -- ---- the lines
-module _ (lines number : ℕ) (few : lines + 1 ≤ MAX_LINES) (is_line : IsLine number) (state : ExchangeState) (stands : IsStanding lines state) where
+module _ (number : ℕ) (is_line : IsLine number) (state : ExchangeState) (stands : IsStanding number state) where
   pub refusal_served : (first : Refusal) → IsTold first → IsServedText (reply_line number (refused_with first) ++ 10 ∷ [])
   refusal_served first is = run_text number (refused_with first) (is_line, is) tt
 
@@ -157,7 +150,7 @@ module _ (lines number : ℕ) (few : lines + 1 ≤ MAX_LINES) (is_line : IsLine 
 
   pub run_served : (said : Body) → BodyIsWithin said → HasField said → IsServedText (reply_line number (reply_to state said).0 ++ 10 ∷ [])
   run_served said within field =
-      run_text number (reply_to state said).0 (is_line, reply_within lines few state stands.running stands.ranged said within field)
+      run_text number (reply_to state said).0 (is_line, reply_within number is_line state stands said within field)
       (promises_kept state (record { number = number; body = said }) stands.running.kept).judged
 
   -- what is told of the live orders of a market

@@ -46,7 +46,7 @@ use Rattle.order_book.specs.Refusals.{live_refusals}
 use Rattle.order_book.proofs.Accepting.{finishable, listing_live}
 use Rattle.order_book.proofs.MarketLists.{same_number}
 use Rattle.form.specs.declared.limits.TheConstants.{MAX_ORDER}
-use Rattle.limits.specs.declared.TheConstants.{MAX_BATCHES, MAX_LINES}
+use Rattle.limits.specs.declared.TheConstants.{MAX_BATCHES}
 use Rattle.lists.specs.Refusals.{first_of}
 use Rattle.settlement.specs.declared.position.Position.{Position}
 use Rattle.reply_print.specs.ReplyPieces.{reply_line}
@@ -81,11 +81,11 @@ use Rattle.quote_lines.specs.Replies.{tried_for}
 use Rattle.quote_lines.proofs.Thresholds.{tried_orders_are_filled}
 use Rattle.reply_ranges.proofs.Outcomes.{outcomes_are_ranged}
 use Rattle.reply_ranges.proofs.Refusals.{IsOne, IsTold, of_book, of_ledger, refusal_is_told}
-use Rattle.reply_ranges.proofs.States.{IsNumbered, batch_is_within, batch_ranged, live_ranged}
+use Rattle.reply_ranges.proofs.States.{IsNumbered, IsStanding, batch_is_within, batch_ranged, live_ranged}
 use Rattle.reply_ranges.proofs.Fields.{IsPlaced, IsPlacedIn}
 use Rattle.reply_ranges.proofs.InOrder.{told_in_order}
 use Rattle.reply_ranges.proofs.Kept.{AreKeptWithin, IsBestWithin, best_within, offer_within}
-use Rattle.reply_ranges.proofs.Others.{IsStanding, first_served, info_told, one_told, refusal_served, run_served}
+use Rattle.reply_ranges.proofs.Others.{first_served, info_told, one_told, refusal_served, run_served}
 use Rattle.reply_ranges.proofs.Texts.{IsServedText, proposal_text}
 
 -- ---- what is proposed is within its ranges
@@ -166,7 +166,7 @@ module _ (state : ProposingState) (sound : IsSound state) (are : AreKeptWithin s
       }
 
 -- ---- the lines
-module _ (lines number : ℕ) (few : lines + 1 ≤ MAX_LINES) (is_line : IsLine number) (state : ProposingState) (stands : IsStanding lines state.exchange) (sound : IsSound state)
+module _ (number : ℕ) (is_line : IsLine number) (state : ProposingState) (stands : IsStanding number state.exchange) (sound : IsSound state)
     (are : AreKeptWithin state.kept) where
   abbrev exchange : ExchangeState
   exchange = state.exchange
@@ -175,16 +175,16 @@ module _ (lines number : ℕ) (few : lines + 1 ≤ MAX_LINES) (is_line : IsLine 
   IsServedReply reply = IsServedText (proposing_reply_line number reply ++ 10 ∷ [])
 
   refused_served : (first : Refusal) → IsTold first → IsServedReply (refused_by first)
-  refused_served = refusal_served lines number few is_line exchange stands
+  refused_served = refusal_served number is_line exchange stands
 
   one_served : (refusals : List (Bool × Refusal)) (first : Refusal) → All IsOne refusals → first_of refusals ≡ Some first → IsServedReply (refused_by first)
-  one_served = first_served lines number few is_line exchange stands
+  one_served = first_served number is_line exchange stands
 
   -- the live orders of a market that is there
   live_within : (market : ℕ) → first_of (by_book (live_refusals exchange.book market)) ≡ None
       → reply.IsBatchWithin (batch_in exchange market) × AreRising (batch_in exchange market).orders
   live_within market none =
-      let live = live_ranged lines exchange stands.running stands.ranged market none in
+      let live = live_ranged number exchange stands market none in
       (batch_is_within exchange.book.accepted (batch_in exchange market) live, live.within.ids_rise)
 
   held_all : (account market : ℕ) → All (IsPositionWithin account market) (positions_of account market exchange.positions)
@@ -283,7 +283,7 @@ module _ (lines number : ℕ) (few : lines + 1 ≤ MAX_LINES) (is_line : IsLine 
         let may = batch_none exchange.book market accepted in
         let (m, found, more, unsettled) = finishable exchange.book market may in
         let reference = reference_in state market budget in
-        let batch_of_it = batch_ranged lines exchange stands.running stands.ranged market may in
+        let batch_of_it = batch_ranged number exchange stands market may in
         let judged = outcomes_are_judged_yes (batch_in exchange market) budget batch_of_it.within in
         let kept = kept_better state sound are market m found reference judged better e in
         let few_units = (outcomes_are_ranged (batch_in exchange market) budget batch_of_it.within units.1).0 in
@@ -297,7 +297,7 @@ module _ (lines number : ℕ) (few : lines + 1 ≤ MAX_LINES) (is_line : IsLine 
     -- as a run has it
     reference_served : IsServedNow (charge_effect state market (reference_in state market budget) None)
     reference_served =
-        let run = run_served lines number few is_line exchange stands (body.Command (Clear market budget)) (listed, units) tt in (
+        let run = run_served number is_line exchange stands (body.Command (Clear market budget)) (listed, units) tt in (
           subst (λ r. IsServedText (reply_line number (option_map_or (refusal_effect exchange) r (clear_effect exchange market budget)).0 ++ 10 ∷ [])) accepted run,
           without_has IsBestWithin market state.kept are,
         )
@@ -318,6 +318,6 @@ module _ (lines number : ℕ) (few : lines + 1 ≤ MAX_LINES) (is_line : IsLine 
   -- a settlement
   pub settle_served : (market count : ℕ) (prices : List ℕ) → RequestIsWithin (asks.Command (Settle market count prices)) → IsServedNow (settlement_reply state market count prices)
   settle_served market count prices within = (
-    run_served lines number few is_line exchange stands (body.Command (Settle market count prices)) within tt,
+    run_served number is_line exchange stands (body.Command (Settle market count prices)) within tt,
     ended_has IsBestWithin (ended_in exchange (Settle market count prices)) state.kept are,
   )

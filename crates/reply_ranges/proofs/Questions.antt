@@ -1,12 +1,13 @@
 -- What a session is told that asks is a sound line.
-use Rattle.std.proofs.Common.{◌≡◌, ◌≤◌, ℕ, ◌+◌, List, [], ◌∷◌, ◌++◌, true, false, Option, Some, None, codes, decimal, if◌then◌else◌, refl, sym, ap, ◌∙◌, subst, append_assoc, arith}
+use Rattle.std.proofs.Common.{◌≡◌, ℕ, ◌+◌, List, [], ◌∷◌, ◌++◌, true, false, Option, Some, None, codes, decimal, if◌then◌else◌, refl, sym, ap, ◌∙◌, subst, append_assoc, arith}
 use Rattle.std.specs.Prelude.{IfSome}
 use Rattle.std.specs.Option.{option_and_then, option_map_or}
 use Rattle.journal_audit.specs.declared.gate_lines.GateLine.TheVariants as gate
 use Rattle.journal_audit.specs.Accepted.{question_line, question_tail}
 use Rattle.journal_audit.specs.GateLines.{IsSessionNumber}
 use Rattle.journal_audit.specs.Laws.{IsServedLineOf, OfQuestion}
-use Rattle.limits.specs.declared.TheConstants.{MAX_LINES, MAX_SESSION}
+use Rattle.limits.specs.declared.TheConstants.{MAX_SESSION}
+use Rattle.reply_print.specs.Within.{IsLine}
 use Rattle.session_gate.specs.Bodies.{is_body}
 use Rattle.session_lines.specs.Messages.{at_comma, number_to}
 use Rattle.session_lines.specs.Questions.{BodyQuestion, asked_of, asked_text, question_in, question_with, session_asks}
@@ -47,15 +48,15 @@ question_has_none session reply one =
 -- what is asked of bodies is told by a sound line of `serve`
 abbrev pub TellsBodies : {S : Type 0} → BodyQuestion S → (ℕ → S → Type 0) → Type 0
 TellsBodies {S} asks Stands =
-    (session number : ℕ) (state : S) (body : List ℕ) → number ≤ MAX_LINES → Stands number state → IsServedText (asks session number state body)
+    (session number : ℕ) (state : S) (body : List ℕ) → IsLine number → Stands number state → IsServedText (asks session number state body)
 
 module _ {S : Type 0} (step : BodyStep S) (asks : BodyQuestion S) (Stands : ℕ → S → Type 0) (each : AnswersBodies step Stands) (tells : TellsBodies asks Stands)
-    (number : ℕ) (state : SessionsState S) (few : number ≤ MAX_LINES) (before : StandsBefore Stands number state) where
+    (number : ℕ) (is_line : IsLine number) (state : SessionsState S) (before : StandsBefore Stands number state) where
   told : (question : ℕ × List ℕ) → IsAsked question → IsOneLine (asked_of asks state question)
   told question is =
       let lt = before.served in
       let n = state.0.served + 1 in
-      let own = tells question.0 n state.1 question.1 (omega (arith, lt, few)) before.stands in
+      let own = tells question.0 n state.1 question.1 (omega arith, omega (arith, lt, is_line.1)) before.stands in
       let reply = without_feed (asks question.0 n state.1 question.1) in
       let same : reply ≡ own.text = ap without_feed own.is ∙ without_it own.text in
       let served : IsServedLineOf reply own.reply = subst (λ t. IsServedLineOf t own.reply) (sym same) own.served in
@@ -70,7 +71,7 @@ module _ {S : Type 0} (step : BodyStep S) (asks : BodyQuestion S) (Stands : ℕ 
 
   malformed : IsOneLine (malformed_text number)
   malformed =
-      let refused = gate_told step Stands each number state few before gate.Malformed tt (malformed_text number) (malformed_is number) in
+      let refused = gate_told step Stands each number is_line state before gate.Malformed tt (malformed_text number) (malformed_is number) in
       record { text = refused.text; is = refused.is; accepted = refused.accepted }
 
   by : (question : Option (ℕ × List ℕ)) → IfSome question IsAsked → IsOneLine (option_map_or (asked_of asks state) question (malformed_text number))

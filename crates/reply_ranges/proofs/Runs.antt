@@ -1,9 +1,9 @@
 -- What is written for the lines of an input is sound, where the answer to each line is.
-use Rattle.std.proofs.Common.{◌≡◌, ◌≤◌, ℕ, ◌+◌, ◌==◌, List, [], ◌∷◌, ◌++◌, Bool, true, false, length, if◌then◌else◌, sym, subst}
+use Rattle.std.proofs.Common.{◌≡◌, ◌≤◌, ℕ, ◌+◌, ◌==◌, List, [], ◌∷◌, ◌++◌, Bool, true, false, length, if◌then◌else◌, sym, subst, arith}
 use Rattle.std.specs.List.{slice_split}
 use Rattle.command_text.specs.Lines.{without_last_empty}
 use Rattle.live_lines.specs.Open.{line_text}
-use Rattle.limits.specs.declared.TheConstants.{MAX_LINES}
+use Rattle.reply_print.specs.Within.{IsLine}
 use Rattle.live_lines.specs.Output.{lines_output, output_of}
 use Rattle.live_lines.specs.Serving.{IsInputWithin}
 use Rattle.live_lines.specs.Taken.{AreWithin}
@@ -21,11 +21,11 @@ pub record IsAnswered {S : Type 0} (Next : S → Type 0) (now : List ℕ × S) :
 -- answered
 module _ {S : Type 0} (step : ℕ → S → List ℕ → List ℕ × S) (Stands : ℕ → S → Type 0)
     (passes : (number : ℕ) (state : S) → Stands number state → Stands (number + 1) state)
-    (answers : (number : ℕ) (state : S) (line : List ℕ) → number ≤ MAX_LINES → Stands number state → IsAnswered (Stands (number + 1)) (step number state line)) where
-  first_accepted : (skips : Bool) (number : ℕ) (state : S) (line : List ℕ) (lines : List (List ℕ)) → number ≤ MAX_LINES → Stands number state
+    (answers : (number : ℕ) (state : S) (line : List ℕ) → IsLine number → Stands number state → IsAnswered (Stands (number + 1)) (step number state line)) where
+  first_accepted : (skips : Bool) (number : ℕ) (state : S) (line : List ℕ) (lines : List (List ℕ)) → IsLine number → Stands number state
       → ((next : S) → Stands (number + 1) next → AreAccepted (lines_output step skips (number + 1) next lines).0)
       → AreAccepted (lines_output step skips number state (line ∷ lines)).0
-  first_accepted skips number state line lines few h later = by (length text == 0)
+  first_accepted skips number state line lines is_line h later = by (length text == 0)
     where
       text : List ℕ
       text = line_text skips number line
@@ -35,18 +35,18 @@ module _ {S : Type 0} (step : ℕ → S → List ℕ → List ℕ × S) (Stands 
       by true = later state (passes number state h)
       by false =
           let now = step number state text in
-          let one = answers number state text few h in
+          let one = answers number state text is_line h in
           one_more one.text now.0 (lines_output step skips (number + 1) now.1 lines).0 one.is one.accepted (later now.1 one.stands)
 
-  pieces_accepted : (skips : Bool) (number : ℕ) (state : S) (pieces : List (List ℕ)) → AreWithin skips number (without_last_empty pieces) → Stands number state
+  pieces_accepted : (skips : Bool) (number : ℕ) (state : S) (pieces : List (List ℕ)) → 1 ≤ number → AreWithin skips number (without_last_empty pieces) → Stands number state
       → AreAccepted (lines_output step skips number state pieces).0
-  pieces_accepted skips number state [] within h = no_lines
-  pieces_accepted skips number state ([] ∷ []) within h = subst (λ (r : List ℕ × S). AreAccepted (r.0 ++ [])) (sym (no_answer step skips number state)) no_lines
-  pieces_accepted skips number state ((b ∷ bs) ∷ []) within h = first_accepted skips number state (b ∷ bs) [] within.0 h (λ next stands. no_lines)
-  pieces_accepted skips number state (piece ∷ next ∷ more) within h =
-      first_accepted skips number state piece (next ∷ more) within.0 h
-      (λ after stands. pieces_accepted skips (number + 1) after (next ∷ more) within.3 stands)
+  pieces_accepted skips number state [] some within h = no_lines
+  pieces_accepted skips number state ([] ∷ []) some within h = subst (λ (r : List ℕ × S). AreAccepted (r.0 ++ [])) (sym (no_answer step skips number state)) no_lines
+  pieces_accepted skips number state ((b ∷ bs) ∷ []) some within h = first_accepted skips number state (b ∷ bs) [] (some, within.0) h (λ next stands. no_lines)
+  pieces_accepted skips number state (piece ∷ next ∷ more) some within h =
+      first_accepted skips number state piece (next ∷ more) (some, within.0) h
+      (λ after stands. pieces_accepted skips (number + 1) after (next ∷ more) (omega arith) within.3 stands)
 
   pub output_accepted : (skips : Bool) (start : S) (input : List ℕ) → IsInputWithin skips input → Stands 1 start → AreAccepted (output_of step skips start input)
   output_accepted skips start input within h =
-      subst AreAccepted (sym (output_is step skips start input)) (pieces_accepted skips 1 start (slice_split (λ b. b == 10) input) within h)
+      subst AreAccepted (sym (output_is step skips start input)) (pieces_accepted skips 1 start (slice_split (λ b. b == 10) input) (omega arith) within h)

@@ -33,7 +33,6 @@ use Rattle.exchange_core.specs.declared.refusal.Refusal.TheVariants as refusal
 use Rattle.exchange_lines.specs.LineSteps.{InputLine}
 use Rattle.frac.specs.Range.{limit as largest}
 use Rattle.journal_audit.specs.Laws.{OfServe}
-use Rattle.limits.specs.declared.TheConstants.{MAX_LINES}
 use Rattle.lists.specs.Refusals.{first_of}
 use Rattle.proposal_lines.specs.Laws.{IsSound}
 use Rattle.proposal_lines.specs.Output.{proposing_reply_line}
@@ -49,11 +48,11 @@ use Rattle.secured_lines.specs.Replies.{need_answered, refused_by, secure_answer
 use Rattle.secured_lines.specs.SecuredState.{SecuredState, exchange_in}
 use Rattle.secured_lines.proofs.LineKinds.{by_answer, by_kind}
 use Rattle.secured_lines.proofs.Telling.{secured_sound}
-use Rattle.reply_ranges.proofs.Others.{IsStanding, refusal_served, run_served}
+use Rattle.reply_ranges.proofs.Others.{refusal_served, run_served}
 use Rattle.reply_ranges.proofs.Runs.{IsAnswered}
 use Rattle.reply_ranges.proofs.ServedLines.{passes, run_stands}
 use Rattle.reply_ranges.proofs.ServingLines.{StandsServing, serving_answers}
-use Rattle.reply_ranges.proofs.States.{more_lines}
+use Rattle.reply_ranges.proofs.States.{IsStanding, later_ranged}
 use Rattle.reply_ranges.proofs.StepReplies.{balance_ranged}
 use Rattle.reply_ranges.proofs.Texts.{IsServedText, proposal_text}
 
@@ -118,15 +117,9 @@ pub passes_secured : (number : ℕ) (state : SecuredState) → StandsSecured num
 passes_secured number state = passes number state.serving.proposing
 
 -- ---- what is written for a line
-module _ (number : ℕ) (state : SecuredState) (few : number ≤ MAX_LINES) (stands : StandsSecured number state) where
+module _ (number : ℕ) (is_line : IsLine number) (state : SecuredState) (stands : StandsSecured number state) where
   abbrev exchange : ExchangeState
   exchange = exchange_in state
-
-  some_room : stands.lines + 1 ≤ MAX_LINES
-  some_room = omega (arith, few, stands.counted)
-
-  is_line : IsLine number
-  is_line = (omega (arith, stands.counted), few)
 
   abbrev IsServedReply : ProposingReply → Type 0
   IsServedReply reply = IsServedText (proposing_reply_line number reply ++ 10 ∷ [])
@@ -142,7 +135,7 @@ module _ (number : ℕ) (state : SecuredState) (few : number ≤ MAX_LINES) (sta
   uncovered_served need is = proposal_text number (Account (account_reply.Uncovered (told_need need))) (is_line, is) tt
 
   no_account : IsServedReply (refused_by (Exchange refusal.NoAccount))
-  no_account = refusal_served stands.lines number some_room is_line exchange stands.exchange refusal.NoAccount ((omega arith, omega arith), refl)
+  no_account = refusal_served number is_line exchange stands.exchange refusal.NoAccount ((omega arith, omega arith), refl)
 
   -- ---- an account that is to be secured
   done_served : (account : ℕ) → IsAccount account → (need : Need) → IsNeedWithin (told_need need) → IsServedReply (secure_answered account (Ok need))
@@ -164,8 +157,7 @@ module _ (number : ℕ) (state : SecuredState) (few : number ≤ MAX_LINES) (sta
       → IsServedReply (need_answered account (option_map_or (λ refusal. Err refusal) (first_of ((not opened, Exchange refusal.NoAccount) ∷ [])) (Ok (what_is_told state.secured exchange account))))
   need_by account own false = no_account
   need_by account own true =
-      let small = balance_ranged stands.lines some_room exchange stands.exchange.running stands.exchange.ranged exchange account refl
-      (more_lines stands.lines (stands.lines + 1) exchange (omega arith) stands.exchange.ranged) in
+      let small = balance_ranged number is_line exchange stands.exchange exchange account refl (later_ranged number (number + 1) exchange (omega arith) stands.exchange.ranged) in
       proposal_text number
       (Account (account_reply.Needs (record {
         account = account;
@@ -185,7 +177,7 @@ module _ (number : ℕ) (state : SecuredState) (few : number ≤ MAX_LINES) (sta
 
     handed_served : (said : Result Request Fault) → said_in SERVED line ≡ said → IsServedNow (handed_on number state line said)
     handed_served said is =
-        let now = serving_answers number state.serving few stands line in
+        let now = serving_answers number is_line state.serving stands line in
         subst (λ (said : Result Request Fault). IsServedNow (handed_on number state line said)) is (now.0, λ sound. now.1)
 
     withdrawn_served : (command : Command) → said_in SERVED line ≡ Ok (asks.Command command) → IsWithin command
@@ -194,13 +186,11 @@ module _ (number : ℕ) (state : SecuredState) (few : number ≤ MAX_LINES) (sta
         let out : Command = Withdraw account amount in
         let own : IsWithin out = subst IsWithin is within in
         let heard = subst (λ (c : Command). said_in SERVED line ≡ Ok (asks.Command c)) is says in (
-          run_served stands.lines number some_room is_line exchange stands.exchange (body.Command out) own tt,
+          run_served number is_line exchange stands.exchange (body.Command out) own tt,
           λ sound. record {
-            lines = stands.lines + 1;
-            counted = omega (arith, stands.counted);
             sound = sound;
-            exchange = subst (λ (said : Body). IsStanding (stands.lines + 1) (reply_to exchange said).1) (command_to_run SERVED line out heard)
-                (run_stands stands.lines state.serving.proposing asked stands.sound stands.exchange);
+            exchange = subst (λ (said : Body). IsStanding (number + 1) (reply_to exchange said).1) (command_to_run SERVED line out heard)
+                (run_stands number state.serving.proposing asked stands.sound stands.exchange);
             kept = stands.kept;
           },
         )

@@ -12,7 +12,6 @@ use Rattle.command_text.proofs.ReadWithin.{said_is_within}
 use Rattle.exchange_core.specs.ExchangeState.{ExchangeState}
 use Rattle.exchange_core.specs.declared.refusal.Refusal.TheVariants as refusal
 use Rattle.form.specs.declared.limits.TheConstants.{MAX_ORDERS}
-use Rattle.limits.specs.declared.TheConstants.{MAX_LINES}
 use Rattle.lists.specs.Refusals.{first_of}
 use Rattle.order_book.specs.Book.{live_of, market_of}
 use Rattle.order_book.specs.Markets.{MarketState}
@@ -38,15 +37,9 @@ abbrev pub StandsServing : ℕ → ServingState → Type 0
 StandsServing number state = Stands number state.proposing
 
 -- ---- what is written for a line
-module _ (number : ℕ) (state : ServingState) (few : number ≤ MAX_LINES) (stands : StandsServing number state) where
+module _ (number : ℕ) (is_line : IsLine number) (state : ServingState) (stands : StandsServing number state) where
   abbrev exchange : ExchangeState
   exchange = exchange_of state
-
-  some_room : stands.lines + 1 ≤ MAX_LINES
-  some_room = omega (arith, few, stands.counted)
-
-  is_line : IsLine number
-  is_line = (omega (arith, stands.counted), few)
 
   abbrev IsServedReply : ProposingReply → Type 0
   IsServedReply reply = IsServedText (proposing_reply_line number reply ++ 10 ∷ [])
@@ -66,10 +59,10 @@ module _ (number : ℕ) (state : ServingState) (few : number ≤ MAX_LINES) (sta
   phased_served now text = (text, passes number state.proposing stands)
 
   no_market : IsServedReply (refused_by (Exchange refusal.NoMarket))
-  no_market = refusal_served stands.lines number some_room is_line exchange stands.exchange refusal.NoMarket ((omega arith, omega arith), refl)
+  no_market = refusal_served number is_line exchange stands.exchange refusal.NoMarket ((omega arith, omega arith), refl)
 
   settled : IsServedReply (refused_by (Exchange refusal.Settled))
-  settled = refusal_served stands.lines number some_room is_line exchange stands.exchange refusal.Settled ((omega arith, omega arith), refl)
+  settled = refusal_served number is_line exchange stands.exchange refusal.Settled ((omega arith, omega arith), refl)
 
   is_closed_served : IsServedReply (Told told.MarketIsClosed)
   is_closed_served = proposal_text number told.MarketIsClosed (is_line, tt) tt
@@ -102,7 +95,7 @@ module _ (number : ℕ) (state : ServingState) (few : number ≤ MAX_LINES) (sta
     handed_served : (said : Result Request Fault) → said_in SERVED line ≡ said → (ended : Option ℕ) → IsServedNow (handed_on number state line said ended)
     handed_served said is ended =
         subst (λ (said : Result Request Fault). IsServedText (served_line number state.proposing line said).0 × Stands (number + 1) (served_line number state.proposing line said).1) is
-        (answers number state.proposing few stands line)
+        (answers number is_line state.proposing stands line)
 
     command_served : (said : Result Request Fault) → said_in SERVED line ≡ said → (ended : Option ℕ) (barred : Bool)
         → IsServedNow (if barred then written_reply number (Told told.MarketIsClosed, state) else handed_on number state line said ended)

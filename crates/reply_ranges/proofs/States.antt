@@ -1,5 +1,5 @@
 -- What a state of a run has beside what is kept stays so at each step.
-use Rattle.std.proofs.Common.{◌≡◌, ℕ, ◌+◌, ◌*◌, ◌-◌, ◌≤◌, ◌||◌, ℤ, ◌*ℤ◌, unsigned_abs, List, [], ◌∷◌, ◌++◌, length, map, replicate, take, Bool, true, false, not, nat_eq, Option, None, Some, refl, ap, ◌∙◌, sym, subst, arith}
+use Rattle.std.proofs.Common.{◌≡◌, ℕ, ◌+◌, ◌*◌, ◌-◌, ◌<◌, ◌≤◌, ◌||◌, ℤ, ◌*ℤ◌, unsigned_abs, List, [], ◌∷◌, ◌++◌, length, map, replicate, take, Bool, true, false, not, nat_eq, Option, None, Some, refl, ap, ◌∙◌, sym, subst, arith}
 use Rattle.std.specs.List.{All, zip}
 use Rattle.std.specs.Option.{option_map_or}
 use Rattle.std.proofs.lemmas.Int.{ints}
@@ -12,9 +12,11 @@ use Rattle.cash_ledger.specs.Ledger.{is_open}
 use Rattle.cash_ledger.proofs.Balances.{AreBounded-push}
 use Rattle.clearing.specs.Outcome.{outcome_of}
 use Rattle.clearing.proofs.Outcomes.{outcomes_are_within}
+use Rattle.command_text.specs.declared.command.Body.{Body}
+use Rattle.command_text.specs.declared.command.Body.TheVariants as body
 use Rattle.command_text.specs.declared.command.Command.{Command}
 use Rattle.command_text.specs.declared.command.Command.TheVariants.{Open, Deposit, Withdraw, Market, Trade, Bundle, Cancel, Clear, Settle, Balance}
-use Rattle.command_text.specs.Within.{IsWithin}
+use Rattle.command_text.specs.Within.{BodyIsWithin, IsWithin}
 use Rattle.form.specs.declared.orders.Batch.{Batch}
 use Rattle.form.specs.declared.orders.Order.{Order}
 use Rattle.form.specs.Limits.{IsWithinLimits}
@@ -38,6 +40,7 @@ use Rattle.settlement.specs.Positions.{held_in, is_of, paid_out, paid_side, payo
 use Rattle.reply_print.specs.Within as reply
 use Rattle.exchange_core.specs.declared.refusal.Refusal.{Refusal}
 use Rattle.exchange_core.specs.ExchangeState.{ExchangeState, empty_exchange}
+use Rattle.exchange_core.specs.LineReplies.{reply_to}
 use Rattle.exchange_core.specs.Kept.{IsKept, IsOfOpen, IsPaidOut}
 use Rattle.exchange_core.specs.Payoffs.{payoff_entries}
 use Rattle.exchange_core.specs.Positions.{positions_in}
@@ -48,8 +51,8 @@ use Rattle.exchange_core.proofs.FirstRefusal.{batch_none, close_none, live_none}
 use Rattle.exchange_core.proofs.LiveAccounts.{All-live_in}
 use Rattle.exchange_core.proofs.Settled.{are_paid_out}
 use Rattle.exchange_lines.proofs.Payouts.{all_made}
-use Rattle.exchange_lines.proofs.RunStates.{IsRunning}
-use Rattle.exchange_lines.proofs.GainSteps.{IsTrader}
+use Rattle.exchange_lines.proofs.RunStates.{IsRunning, empty_runs, step_runs}
+use Rattle.exchange_lines.proofs.GainSteps.{IsTrader, body_steps}
 use Rattle.exchange_lines.proofs.ZeroPrices.{worth-with_zero_prices}
 use Rattle.reply_ranges.proofs.Entries.{AreBounded-append, IsAmountSmall, batch_counts, payoffs_bounded, premiums_bounded, settled_counts}
 use Rattle.form.specs.Between.{Between}
@@ -58,25 +61,36 @@ use Rattle.form.specs.Between.{Between}
 abbrev pub IsNumbered : BookState → Position → Type 0
 IsNumbered book position = Between 1 book.finished position.batch × Between 1 book.accepted position.order
 
--- a state after at most so many lines
-pub record IsRanged (lines : ℕ) (state : ExchangeState) : Type 0 where
+-- a state before the line of a number
+pub record IsRanged (number : ℕ) (state : ExchangeState) : Type 0 where
   pub accounts : All (λ account. account ≤ MAX_ACCOUNT) state.accounts
   pub positions : All (IsNumbered state.book) state.positions
   pub bounded : AreBounded state.entries
   -- an entry for a line, and four for an order of a batch: two as it is cleared, and two as its
   -- market is settled
-  pub few : length state.entries + 2 * length state.positions ≤ lines + 1024 * state.book.finished
+  pub few : length state.entries + 2 * length state.positions < number + 1024 * state.book.finished
 
-pub empty_is_ranged : IsRanged 0 empty_exchange
-empty_is_ranged = record {
-  accounts = All-cons (λ account. account ≤ MAX_ACCOUNT) 0 [] (omega arith) (All-nil (λ account. account ≤ MAX_ACCOUNT));
-  positions = All-nil (IsNumbered empty_exchange.book);
-  bounded = tt;
-  few = omega arith;
+-- an exchange that runs
+pub record IsStanding (number : ℕ) (state : ExchangeState) : Type 0 where
+  pub running : IsRunning state
+  pub ranged : IsRanged number state
+
+pub empty_stands : IsStanding 1 empty_exchange
+empty_stands = record {
+  running = empty_runs;
+  ranged = record {
+    accounts = All-cons (λ account. account ≤ MAX_ACCOUNT) 0 [] (omega arith) (All-nil (λ account. account ≤ MAX_ACCOUNT));
+    positions = All-nil (IsNumbered empty_exchange.book);
+    bounded = tt;
+    few = omega arith;
+  };
 }
 
-pub more_lines : (n m : ℕ) (state : ExchangeState) → n ≤ m → IsRanged n state → IsRanged m state
-more_lines n m state le ranged = record { accounts = ranged.accounts; positions = ranged.positions; bounded = ranged.bounded; few = omega (arith, le, ranged.few) }
+pub later_ranged : (n m : ℕ) (state : ExchangeState) → n ≤ m → IsRanged n state → IsRanged m state
+later_ranged n m state le ranged = record { accounts = ranged.accounts; positions = ranged.positions; bounded = ranged.bounded; few = omega (arith, le, ranged.few) }
+
+pub still : (n m : ℕ) (state : ExchangeState) → n ≤ m → IsStanding n state → IsStanding m state
+still n m state le stands = record { running = stands.running; ranged = later_ranged n m state le stands.ranged }
 
 -- an open account is within the limit
 pub open_small : (accounts : List ℕ) (account : ℕ) → All (λ a. a ≤ MAX_ACCOUNT) accounts → is_open accounts account ≡ true → account ≤ MAX_ACCOUNT
@@ -101,20 +115,20 @@ pub batch_is_within : (accepted : ℕ) (batch : Batch) → IsBatchOf accepted ba
 batch_is_within accepted batch is =
     ((is.within.has_forms.some, is.within.has_forms.few), is.within.orders_fit, recursion_from_All reply.IsOrderWithin batch.orders is.orders)
 
-module _ (lines : ℕ) (state : ExchangeState) (running : IsRunning state) (ranged : IsRanged lines state) where
+module _ (number : ℕ) (state : ExchangeState) (stands : IsStanding number state) where
   order_ranged : (underlyings : ℕ) (order : Order) → IsLive underlyings state.book.accepted order → IsTrader order → IsOfOpen state.accounts order → reply.IsOrderWithin order
   order_ranged underlyings order live trader opened =
-      let most = running.kept.orders.book.accepted in
-      ((live.some, omega (arith, live.number, most)), (trader, open_small state.accounts order.account ranged.accounts opened), live.within)
+      let most = stands.running.kept.orders.book.accepted in
+      ((live.some, omega (arith, live.number, most)), (trader, open_small state.accounts order.account stands.ranged.accounts opened), live.within)
 
   market_batch : (market : ℕ) (m : MarketState) → market_of state.book market ≡ Some m → IsBatchOf state.book.accepted (batch_of m)
   market_batch market m found =
       let accepted : ℕ = state.book.accepted in
       let Live : Order → Type 0 = IsLive m.underlyings accepted in
-      let one = market_kept state.book running.kept.orders.book market m found in
+      let one = market_kept state.book stands.running.kept.orders.book market m found in
       let same = live_found market state.book.markets m found in
-      let traders : All IsTrader m.live = subst (All IsTrader) same (All-live_in IsTrader market state.book.markets running.traders) in
-      let opened : All (IsOfOpen state.accounts) m.live = subst (All (IsOfOpen state.accounts)) same (All-live_in (IsOfOpen state.accounts) market state.book.markets running.kept.orders.accounts) in
+      let traders : All IsTrader m.live = subst (All IsTrader) same (All-live_in IsTrader market state.book.markets stands.running.traders) in
+      let opened : All (IsOfOpen state.accounts) m.live = subst (All (IsOfOpen state.accounts)) same (All-live_in (IsOfOpen state.accounts) market state.book.markets stands.running.kept.orders.accounts) in
       let live : All Live m.live = one.live in
       record {
         within = batch_within accepted m one;
@@ -167,40 +181,43 @@ still_numbered old new finished accepted positions all =
     All-weaker (IsNumbered old) (IsNumbered new)
     (λ (p : Position) (h : IsNumbered old p). ((h.0.0, omega (arith, h.0.1, finished)), (h.1.0, omega (arith, h.1.1, accepted)))) positions all
 
-module _ (lines : ℕ) (state : ExchangeState) (running : IsRunning state) (ranged : IsRanged lines state) where
+module _ (number : ℕ) (state : ExchangeState) (stands : IsStanding number state) where
+  abbrev ranged : IsRanged number state
+  ranged = stands.ranged
+
   abbrev Accounts : ℕ → Type 0
   Accounts account = account ≤ MAX_ACCOUNT
 
   -- with fills of the orders
   pub charged_ranged : (market : ℕ) (fills : List Frac128) → first_of (batch_refusals state.book market) ≡ None
-      → All IsFill (zip (batch_in state market).orders (map fraction_of fills)) → IsRanged (lines + 1) (cleared_with state market fills)
+      → All IsFill (zip (batch_in state market).orders (map fraction_of fills)) → IsRanged (number + 1) (cleared_with state market fills)
   charged_ranged market fills none are =
       let batch : Batch = batch_in state market in
-      let number : ℕ = state.book.finished + 1 in
+      let finished : ℕ = state.book.finished + 1 in
       let after : BookState = (cleared_with state market fills).book in
-      let is = batch_ranged lines state running ranged market none in
-      let new_positions = positions_in market number batch.orders fills in
-      let entries = premium_entries number batch.orders fills in
+      let is = batch_ranged number state stands market none in
+      let new_positions = positions_in market finished batch.orders fills in
+      let entries = premium_entries finished batch.orders fills in
       record {
         accounts = ranged.accounts;
         positions = All-append (IsNumbered after) state.positions new_positions
             (still_numbered state.book after (omega arith) (omega arith) state.positions ranged.positions)
-            (all_made (IsNumbered after) (IsAccepted state.book.accepted) market number (λ order fill h. ((omega arith, omega arith), h)) batch.orders fills is.accepted_orders);
-        bounded = AreBounded-append state.entries entries ranged.bounded (premiums_bounded number batch.orders fills is.within.orders_within are);
-        few = omega (arith, ranged.few, is.within.orders_fit, batch_counts market number batch.orders fills, length-append state.entries entries, length-append state.positions new_positions);
+            (all_made (IsNumbered after) (IsAccepted state.book.accepted) market finished (λ order fill h. ((omega arith, omega arith), h)) batch.orders fills is.accepted_orders);
+        bounded = AreBounded-append state.entries entries ranged.bounded (premiums_bounded finished batch.orders fills is.within.orders_within are);
+        few = omega (arith, ranged.few, is.within.orders_fit, batch_counts market finished batch.orders fills, length-append state.entries entries, length-append state.positions new_positions);
       }
 
-  cleared_ranged : (market budget : ℕ) → first_of (batch_refusals state.book market) ≡ None → IsRanged (lines + 1) (effect state (Clear market budget)).1
+  cleared_ranged : (market budget : ℕ) → first_of (batch_refusals state.book market) ≡ None → IsRanged (number + 1) (effect state (Clear market budget)).1
   cleared_ranged market budget none =
       let batch : Batch = batch_in state market in
-      let is = batch_ranged lines state running ranged market none in
+      let is = batch_ranged number state stands market none in
       charged_ranged market (outcome_of batch budget).fills none (outcomes_are_within batch budget is.within).1
 
   settled_ranged : (market count : ℕ) (prices : List ℕ) → All (λ p. p ≤ MAX_SETTLEMENT_PRICE) prices → first_of (close_refusals state.book market count) ≡ None
-      → IsRanged (lines + 1) (effect state (Settle market count prices)).1
+      → IsRanged (number + 1) (effect state (Settle market count prices)).1
   settled_ranged market count prices within none =
       let payouts = payouts_of market (take count prices) state.positions in
-      let paid = payouts_can_be_paid state running.kept market count prices within none in
+      let paid = payouts_can_be_paid state stands.running.kept market count prices within none in
       let after : BookState = (effect state (Settle market count prices)).1.book in
       let small : All IsAmountSmall payouts = All-weaker (IsPaidOut state.accounts) IsAmountSmall (λ p h. h.amount) payouts paid in
       record {
@@ -211,7 +228,7 @@ module _ (lines : ℕ) (state : ExchangeState) (running : IsRunning state) (rang
       }
 
   placed_ranged : (command : Command) → (effect state command).1.accounts ≡ state.accounts → (effect state command).1.entries ≡ state.entries → (effect state command).1.positions ≡ state.positions
-      → state.book.finished ≡ (effect state command).1.book.finished → state.book.accepted ≤ (effect state command).1.book.accepted → IsRanged (lines + 1) (effect state command).1
+      → state.book.finished ≡ (effect state command).1.book.finished → state.book.accepted ≤ (effect state command).1.book.accepted → IsRanged (number + 1) (effect state command).1
   placed_ranged command accounts entries positions finished accepted =
       let after : ExchangeState = (effect state command).1 in
       let few = ranged.few in
@@ -223,7 +240,7 @@ module _ (lines : ℕ) (state : ExchangeState) (running : IsRunning state) (rang
       }
 
   -- an entry more
-  entered_ranged : (entry : Entry) → IsBounded entry → IsRanged (lines + 1) (with_entry state entry)
+  entered_ranged : (entry : Entry) → IsBounded entry → IsRanged (number + 1) (with_entry state entry)
   entered_ranged entry small = record {
     accounts = ranged.accounts;
     positions = ranged.positions;
@@ -231,7 +248,7 @@ module _ (lines : ℕ) (state : ExchangeState) (running : IsRunning state) (rang
     few = omega (arith, ranged.few, length-append state.entries (entry ∷ []));
   }
 
-  pub effect_ranged : (command : Command) → IsWithin command → refusal_of state command ≡ None → IsRanged (lines + 1) (effect state command).1
+  pub effect_ranged : (command : Command) → IsWithin command → refusal_of state command ≡ None → IsRanged (number + 1) (effect state command).1
   effect_ranged (Open account) within none = record {
     accounts = All-push Accounts state.accounts account ranged.accounts within.1;
     positions = ranged.positions;
@@ -247,11 +264,23 @@ module _ (lines : ℕ) (state : ExchangeState) (running : IsRunning state) (rang
   effect_ranged (Cancel account order) within none = placed_ranged (Cancel account order) refl refl refl refl (omega arith)
   effect_ranged (Clear market budget) within none = cleared_ranged market budget (batch_none state.book market none)
   effect_ranged (Settle market count prices) within none = settled_ranged market count prices within.2 (close_none state.book market count none)
-  effect_ranged (Balance account) within none = more_lines lines (lines + 1) state (omega arith) ranged
+  effect_ranged (Balance account) within none = later_ranged number (number + 1) state (omega arith) ranged
 
-  pub step_ranged : (command : Command) → IsWithin command → IsRanged (lines + 1) (step state command).1
+  step_ranged : (command : Command) → IsWithin command → IsRanged (number + 1) (step state command).1
   step_ranged command within = by (refusal_of state command) refl
     where
-      by : (r : Option Refusal) → refusal_of state command ≡ r → IsRanged (lines + 1) (option_map_or (refusal_effect state) r (effect state command)).1
+      by : (r : Option Refusal) → refusal_of state command ≡ r → IsRanged (number + 1) (option_map_or (refusal_effect state) r (effect state command)).1
       by None none = effect_ranged command within none
-      by (Some refusal) told = more_lines lines (lines + 1) state (omega arith) ranged
+      by (Some refusal) told = later_ranged number (number + 1) state (omega arith) ranged
+
+  said_ranged : (said : Body) → BodyIsWithin said → IsRanged (number + 1) (reply_to state said).1
+  said_ranged (body.Command command) within = step_ranged command within
+  said_ranged body.Syntax within = later_ranged number (number + 1) state (omega arith) ranged
+  said_ranged (body.Range field) within = later_ranged number (number + 1) state (omega arith) ranged
+
+  -- so it stands behind what a line says
+  pub said_stands : (said : Body) → BodyIsWithin said → IsStanding (number + 1) (reply_to state said).1
+  said_stands said within = record {
+    running = step_runs state (reply_to state said) stands.running (body_steps state said within stands.running.kept stands.running.traders);
+    ranged = said_ranged said within;
+  }

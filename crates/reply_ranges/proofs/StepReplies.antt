@@ -19,7 +19,7 @@ use Rattle.order_book.proofs.Accepting.{accepts, closable, finishable}
 use Rattle.order_book.proofs.BookKept.{market_kept}
 use Rattle.order_book.proofs.MarketLists.{live_found}
 use Rattle.lists.specs.Refusals.{first_of}
-use Rattle.limits.specs.declared.TheConstants.{MAX_SETTLEMENT_PRICE, MAX_LINES}
+use Rattle.limits.specs.declared.TheConstants.{MAX_SETTLEMENT_PRICE}
 use Rattle.settlement.specs.declared.position.PaidOut.{PaidOut}
 use Rattle.settlement.specs.declared.position.Position.{Position}
 use Rattle.settlement.specs.Positions.{gain_at, held_in, is_of, paid_out, paid_side, payouts_of}
@@ -40,7 +40,7 @@ use Rattle.reply_ranges.specs.Laws.{HasField}
 use Rattle.reply_ranges.proofs.Entries.{balance_small}
 use Rattle.reply_ranges.proofs.Outcomes.{outcomes_are_ranged}
 use Rattle.reply_ranges.proofs.Refusals.{refusal_is_told}
-use Rattle.reply_ranges.proofs.States.{IsNumbered, IsRanged, batch_is_within, batch_ranged, effect_ranged, open_small, payouts_can_be_paid}
+use Rattle.reply_ranges.proofs.States.{IsNumbered, IsRanged, IsStanding, batch_is_within, batch_ranged, effect_ranged, open_small, payouts_can_be_paid}
 
 abbrev HasTrader : Position → Type 0
 HasTrader position = 1 ≤ position.account
@@ -57,12 +57,18 @@ record IsPaidFrom (paid : PaidOut) : Type 0 where
   trader : 1 ≤ paid.account
   sided : reply.HasItsSide paid.side paid.amount
 
-module _ (lines : ℕ) (few : lines + 1 ≤ MAX_LINES) (state : ExchangeState) (running : IsRunning state) (ranged : IsRanged lines state) where
+module _ (number : ℕ) (is_line : reply.IsLine number) (state : ExchangeState) (stands : IsStanding number state) where
+  abbrev running : IsRunning state
+  running = stands.running
+
+  abbrev ranged : IsRanged number state
+  ranged = stands.ranged
+
   -- balances after one line more
-  pub balance_ranged : (next : ExchangeState) (account : ℕ) → next.book ≡ state.book → IsRanged (lines + 1) next → reply.IsSmall (balance_of account next.entries)
+  pub balance_ranged : (next : ExchangeState) (account : ℕ) → next.book ≡ state.book → IsRanged (number + 1) next → reply.IsSmall (balance_of account next.entries)
   balance_ranged next account same after =
       let most = running.kept.orders.book.finished in
-      balance_small account next.entries after.bounded (omega (arith, after.few, few, most, ap (λ (b : _). b.finished) same))
+      balance_small account next.entries after.bounded (omega (arith, after.few, is_line.1, most, ap (λ (b : _). b.finished) same))
 
   reserve_ranged : (account : ℕ) → reserve_in state account < 2 ^ 127
   reserve_ranged account =
@@ -78,7 +84,7 @@ module _ (lines : ℕ) (few : lines + 1 ≤ MAX_LINES) (state : ExchangeState) (
   cleared_within market budget within low none =
       let (m, found, more, unsettled) = finishable state.book market none in
       let batch : Batch = batch_in state market in
-      let is = batch_ranged lines state running ranged market none in (
+      let is = batch_ranged number state stands market none in (
         (omega arith, omega (arith, more)),
         within,
         batch_is_within state.book.accepted batch is,
@@ -121,9 +127,9 @@ module _ (lines : ℕ) (few : lines + 1 ≤ MAX_LINES) (state : ExchangeState) (
   effect_within : (command : Command) → IsWithin command → refusal_of state command ≡ None → IsReplyWithin (effect state command).0
   effect_within (Open account) within none = within
   effect_within (Deposit account amount) within none =
-      (within.0, balance_ranged (effect state (Deposit account amount)).1 account refl (effect_ranged lines state running ranged (Deposit account amount) within none))
+      (within.0, balance_ranged (effect state (Deposit account amount)).1 account refl (effect_ranged number state stands (Deposit account amount) within none))
   effect_within (Withdraw account amount) within none =
-      (within.0, balance_ranged (effect state (Withdraw account amount)).1 account refl (effect_ranged lines state running ranged (Withdraw account amount) within none))
+      (within.0, balance_ranged (effect state (Withdraw account amount)).1 account refl (effect_ranged number state stands (Withdraw account amount) within none))
   effect_within (Market market underlyings) within none = within
   effect_within (Trade side account market kind strike price quantity count weights) within none = placed_within (order_by side account market kind strike price quantity count weights) none
   effect_within (Bundle side account market price quantity bundle) within none = placed_within (order_for side account market price quantity bundle) none
@@ -131,7 +137,7 @@ module _ (lines : ℕ) (few : lines + 1 ≤ MAX_LINES) (state : ExchangeState) (
   effect_within (Clear market budget) within none = cleared_within market budget within.0 within.1.1 (batch_none state.book market none)
   effect_within (Settle market count prices) within none = settled_within market count prices within.0 within.2 (close_none state.book market count none)
   effect_within (Balance account) within none =
-      (within, balance_ranged state account refl (effect_ranged lines state running ranged (Balance account) within none), reserve_ranged account, omega (arith, ints))
+      (within, balance_ranged state account refl (effect_ranged number state stands (Balance account) within none), reserve_ranged account, omega (arith, ints))
 
   pub step_within : (command : Command) → IsWithin command → IsReplyWithin (step state command).0
   step_within command within = by (refusal_of state command) refl

@@ -1,4 +1,4 @@
-use Rattle.reply_ranges.proofs.CommandRuns.{replies_are_within}
+use Rattle.reply_ranges.proofs.Within.{replies_are_within}
 use Rattle.reply_ranges.proofs.laws.replies_are_within.Goals as goal
 
 pub returns : goal.returns
