@@ -68,7 +68,7 @@ new_no_more kept new = by (is_at_most (fraction_of kept.bound) (fraction_of new.
     by true is = is_most (fraction_of kept.bound) (fraction_of new.bound) is
     by false is = omega (arith, ints)
 
-no_more_than_new : (orders : List ℕ) (proposal : Proposal) (bound : Frac128) (kept : Option Best)
+pub no_more_than_new : (orders : List ℕ) (proposal : Proposal) (bound : Frac128) (kept : Option Best)
     → AtMost (fraction_of (after_offer kept orders proposal bound).bounded.bound) (fraction_of bound)
 no_more_than_new orders proposal bound None = omega (arith, ints)
 no_more_than_new orders proposal bound (Some kept) =

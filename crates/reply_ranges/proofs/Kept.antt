@@ -1,10 +1,11 @@
--- What is kept of proposals is within the ranges of proposals.
-use Rattle.std.proofs.Common.{ℕ, List, true, false, if◌then◌else◌, Option, Some, None, Result, Ok, Err}
+-- What is kept of proposals is within the ranges of proposals, and what is told of one is in order.
+use Rattle.std.proofs.Common.{◌≡◌, ℕ, List, true, false, if◌then◌else◌, Option, Some, None, Result, Ok, Err}
 use Rattle.std.specs.Prelude.{IfSome}
 use Rattle.std.specs.List.{All}
 use Rattle.std.specs.Option.{option_map_or}
 use Rattle.proposal_check.specs.Proposals.{proposal_bound}
 use Rattle.proposal_check.specs.declared.covers.Proposal.{Proposal}
+use Rattle.proposal_check.proofs.Proposals.{proposals_are_decided}
 use Rattle.proposal_check.specs.declared.covers.BoundFailure.{BoundFailure as Reason}
 use Rattle.exact_num.specs.Fraction.{Fraction}
 use Rattle.exact_num.specs.Tests.{is_at_most}
@@ -15,9 +16,9 @@ use Rattle.frac.specs.ValueOf.{value_from}
 use Rattle.frac.specs.declared.frac128.Frac128.{Frac128}
 use Rattle.order_book.specs.Numbers.{numbers_of}
 use Rattle.proposal_text.specs.declared.replies.FailureKind.TheVariants as failed
-use Rattle.proposal_text.specs.Within.{IsMeasureWithin, IsProposalCoverWithin, IsProposalWithin}
+use Rattle.proposal_text.specs.Within.{AreInOrder, IsMeasureWithin, IsProposalCoverWithin, IsProposalWithin}
 use Rattle.proposals.specs.Best.{after_offer, are_same_orders, best_for, best_of, better_fills, better_measure, joined, surplus_of}
-use Rattle.proposals.specs.Laws.{as_proposal}
+use Rattle.proposals.specs.Laws.{IsProvedBest, as_proposal}
 use Rattle.proposals.specs.declared.best.Best.{Best}
 use Rattle.proposals.specs.declared.best.BoundedMeasure.{BoundedMeasure}
 use Rattle.proposals.specs.declared.best.CoveredFills.{CoveredFills}
@@ -25,6 +26,8 @@ use Rattle.proposal_lines.specs.KeptByMarket.{KeptProposals, best_in, kept_in}
 use Rattle.proposal_lines.specs.Proposed.{after_proposed, judged_effect, kept_by, offered, stale_effect, unproved_effect}
 use Rattle.proposal_lines.specs.declared.proposed.Proposed.{Proposed}
 use Rattle.proposal_lines.proofs.Kept.{Has, found_has, with_has}
+use Rattle.proposal_lines.proofs.Lowering.{no_less_than_new}
+use Rattle.proposal_lines.proofs.UsingBest.{no_more_than_new}
 
 abbrev pub IsBestWithin : ℕ → Best → Type 0
 IsBestWithin market best = IsProposalWithin (as_proposal best)
@@ -76,3 +79,17 @@ counted_within orders (Some best) h = elim (are_same_orders best.orders orders) 
 
 pub best_within : (market : ℕ) (orders : List ℕ) (kept : KeptProposals) → AreKeptWithin kept → IfSome (best_in market orders kept) (λ best. IsProposalWithin (as_proposal best))
 best_within market orders kept are = counted_within orders (kept_in market kept) (found_has IsBestWithin market kept are)
+
+-- ---- what is told of a bound: 0, its surplus, and by weak duality the greatest surplus and the least
+-- bound that are kept, and the bound do not fall
+pub told_in_order : (batch : Batch) (kept : Option Best) (orders : List ℕ) (proposal : Proposal) (bound : Frac128) → proposal_bound limit batch proposal ≡ Ok (fraction_of bound)
+    → (for_batch : Batch) → IsProvedBest for_batch (after_offer kept orders proposal bound)
+    → (let best = after_offer kept orders proposal bound in AreInOrder proposal.claim.surplus best.covered.claim.surplus best.bounded.bound bound)
+told_in_order batch kept orders proposal bound proves for_batch proved =
+    let best = after_offer kept orders proposal bound in
+    record {
+      not_below_zero = ((proposals_are_decided batch proposal).proved (fraction_of bound) proves).covered.not_below_zero;
+      best = no_less_than_new orders proposal bound kept;
+      bounded = ((proposals_are_decided for_batch (as_proposal best)).proved (fraction_of best.bounded.bound) proved).bounds.at_most;
+      least = no_more_than_new orders proposal bound kept;
+    }

@@ -13,7 +13,6 @@ pub mod Runs
 pub mod Margins
 pub mod Texts
 pub mod Others
-pub mod InOrder
 pub mod Kept
 pub mod Proposals
 pub mod ServedLines

@@ -83,8 +83,7 @@ use Rattle.reply_ranges.proofs.Outcomes.{outcomes_are_ranged}
 use Rattle.reply_ranges.proofs.Refusals.{IsOne, IsTold, of_book, of_ledger, refusal_is_told}
 use Rattle.reply_ranges.proofs.States.{IsNumbered, IsStanding, batch_is_within, batch_ranged, live_ranged}
 use Rattle.reply_ranges.proofs.Fields.{IsPlaced, IsPlacedIn}
-use Rattle.reply_ranges.proofs.InOrder.{told_in_order}
-use Rattle.reply_ranges.proofs.Kept.{AreKeptWithin, IsBestWithin, best_within, offer_within}
+use Rattle.reply_ranges.proofs.Kept.{AreKeptWithin, IsBestWithin, best_within, offer_within, told_in_order}
 use Rattle.reply_ranges.proofs.Others.{first_served, info_told, one_told, refusal_served, run_served}
 use Rattle.reply_ranges.proofs.Texts.{IsServedText, proposal_text}
 

@@ -1,5 +1,5 @@
 -- The units of each outcome are no more than its budget.
-use Rattle.std.proofs.Common.{ℕ, ◌-◌, ◌≤◌, ◌==◌, List, Bool, true, false, sym, subst, arith}
+use Rattle.std.proofs.Common.{ℕ, ◌+◌, ◌-◌, ◌≤◌, ◌==◌, List, Bool, true, false, sym, subst, arith}
 use Rattle.std.specs.Prelude.{Result, if◌then◌else◌}
 use Rattle.exact_num.specs.declared.misfit.Wide.{Wide}
 use Rattle.frac.specs.Range.{limit as largest}
@@ -9,19 +9,16 @@ use Rattle.form.specs.Limits.{IsWithinLimits}
 use Rattle.cert_check.specs.declared.outcome.Mark.TheVariants as mark
 use Rattle.clearing.specs.Outcome.{fallback, has_values, optimal_outcome, outcome_at, outcome_of, run_of}
 use Rattle.line_cover.specs.Breakpoints.{later_states}
-use Rattle.master_program.specs.Master.{master, zero_prices}
-use Rattle.master_program.specs.Solve.{master_run, master_solve, on_optimum, reading_at}
+use Rattle.master_program.specs.Reading.{Reading}
+use Rattle.master_program.specs.Solve.{master_solve}
 use Rattle.master_program.specs.Rounds.{Cleared, rounds}
 use Rattle.constraint_generation.specs.Answers.{limits_of}
 use Rattle.constraint_generation.specs.Run.{CoveredReading, line_run, on_line, on_tree, sums_hold as line_sums}
 use Rattle.constraint_generation.proofs.JointRuns.{by_count, joint_run-is, the_line}
 use Rattle.search_laws.specs.Rounds.{AreCounted}
 use Rattle.search_laws.specs.Run.{sums_hold as tree_sums, tree_run}
-use Rattle.search_laws.proofs.Rounds.{rounds_are_counted}
+use Rattle.search_laws.proofs.Rounds.{SolveIsCounted, rounds_are_counted, solve_counted}
 use Rattle.simplex_run.specs.Ending.{Ending, done, unbounded, wide_at, no_unit_left, on_answer, on_steps, where_fits, EndsBy}
-use Rattle.simplex_run.specs.Run.{Optimum, run}
-use Rattle.simplex_run.specs.Units.{IsCounted}
-use Rattle.simplex_run.proofs.Counted.{units_are_counted}
 use Rattle.simplex_run.proofs.Endings.{on_answer-by, on_steps-by}
 
 -- the units of an answer and of a step that does not fit
@@ -34,23 +31,17 @@ answer_spends budget e next h f = on_answer-by (λ a units. units ≤ budget) (�
 steps_spend : {A B : Type 0} (budget units : ℕ) (r : Result A Wide) (next : A → Ending B) → units ≤ budget → ((a : A) → Spends budget (next a)) → Spends budget (on_steps units r next)
 steps_spend budget units r next low f = on_steps-by (λ b units. units ≤ budget) (Unit {0}) (λ w units. units ≤ budget) units r next (λ w is. low) (λ a is. f a)
 
-counted_spends : (left : ℕ) (e : Ending Optimum) → IsCounted left 0 e → Spends left e
-counted_spends left (done o units) h = omega (arith, h.1)
-counted_spends left (unbounded d units) h = tt
-counted_spends left (wide_at units w) h = omega (arith, h.1)
-counted_spends left (no_unit_left units) h = tt
-
-solve_spends : (left n : ℕ) (orders : List Order) (states : List (List ℕ)) → Spends left (master_solve largest largest left 0 n orders states)
-unfolding master_solve
-solve_spends left n orders states =
-    answer_spends left (master_run largest largest left 0 orders states) (on_optimum largest (zero_prices n) orders states)
-    (steps_spend left 0 (master largest largest orders states) (λ program. run largest program left 0) (omega arith) (λ program. counted_spends left (run largest program left 0) (units_are_counted largest program left 0)))
-    (λ o units low. steps_spend left units (reading_at largest (zero_prices n) orders states o) (λ reading. done reading units) low (λ reading. low))
+solve_spends : (left : ℕ) (e : Ending Reading) → SolveIsCounted 0 (0 + left) e → Spends left e
+solve_spends left (done r units) h = omega (arith, h.1)
+solve_spends left (unbounded d units) h = tt
+solve_spends left (wide_at units w) h = omega (arith, h.1)
+solve_spends left (no_unit_left units) h = tt
 
 line_spends : (left : ℕ) (orders : List Order) → Spends left (line_run largest largest left 0 orders)
 unfolding line_run
 line_spends left orders =
-    answer_spends left (master_solve largest largest left 0 1 orders (later_states orders)) (where_fits (line_sums largest orders)) (solve_spends left 1 orders (later_states orders))
+    let solved = master_solve largest largest left 0 1 orders (later_states orders) in
+    answer_spends left solved (where_fits (line_sums largest orders)) (solve_spends left solved (solve_counted largest largest 1 left 0 orders (later_states orders)))
     (λ r units low. steps_spend left units (line_sums largest orders r) (λ b. done r units) low (λ b. low))
 
 rounds_spend : (spent budget : ℕ) (e : Ending Cleared) → AreCounted spent budget e → Spends budget e
