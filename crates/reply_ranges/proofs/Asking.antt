@@ -1,16 +1,10 @@
 -- Between lines some may ask: what is told is sound, and what is left stands before the next line.
-use Rattle.std.proofs.Common.{◌≡◌, ℕ, ◌+◌, ◌-◌, List, [], ◌∷◌, ◌++◌, Bool, true, false, if◌then◌else◌, subst, arith}
+use Rattle.std.proofs.Common.{◌≡◌, ℕ, ◌+◌, ◌-◌, List, [], Bool, true, false, if◌then◌else◌, subst, arith}
 use Rattle.asked_lines.specs.Asked.{AskedState, asked_by, asked_step, asking_first, is_question, other_step, question_step}
 use Rattle.asked_lines.specs.Standing.{StandsAsked}
 use Rattle.reply_print.specs.Within.{IsLine}
-use Rattle.reply_ranges.proofs.Reports.{IsAccepted}
+use Rattle.reply_ranges.proofs.Reports.{IsOneLine}
 use Rattle.reply_ranges.proofs.Runs.{IsAnswered}
-
--- a sound line, with its line feed
-pub record IsOneLine (bytes : List ℕ) : Type 0 where
-  pub text : List ℕ
-  pub is : bytes ≡ text ++ 10 ∷ []
-  pub accepted : IsAccepted text
 
 module _ {S : Type 0} (ask : ℕ → S → List ℕ → List ℕ) (step : ℕ → S → List ℕ → List ℕ × S) (Stands : ℕ → S → Type 0)
     (passes : (number : ℕ) (state : S) → Stands number state → Stands (number + 1) state)
@@ -40,23 +34,12 @@ module _ {S : Type 0} (ask : ℕ → S → List ℕ → List ℕ) (step : ℕ �
 
       question_answered : IsAnswered (StandsAsked Stands (number + 1)) (question_step ask number state line)
       question_answered =
-          let told = tells own state.inner (asked_by line) own_line h.1 in
-          record {
-            text = told.text;
-            is = told.is;
-            accepted = told.accepted;
-            stands = (omega (arith, h.0), subst (λ n. Stands n state.inner) stays h.1);
-          }
+          (tells own state.inner (asked_by line) own_line h.1, (omega (arith, h.0), subst (λ n. Stands n state.inner) stays h.1))
 
       other_answered : IsAnswered (StandsAsked Stands (number + 1)) (other_step step number state line)
       other_answered =
           let told = answers own state.inner line own_line h.1 in
-          record {
-            text = told.text;
-            is = told.is;
-            accepted = told.accepted;
-            stands = (omega (arith, h.0), subst (λ n. Stands n (step own state.inner line).1) goes told.stands);
-          }
+          (told.0, (omega (arith, h.0), subst (λ n. Stands n (step own state.inner line).1) goes told.1))
 
       by : (b : Bool) → IsAnswered (StandsAsked Stands (number + 1)) (if b then question_step ask number state line else other_step step number state line)
       by true = question_answered

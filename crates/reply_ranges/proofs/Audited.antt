@@ -1,29 +1,29 @@
 -- What is served is accepted.
-use Rattle.std.proofs.Common.{◌+◌, ℕ, List, Bool, inl, true, false}
+use Rattle.std.proofs.Common.{◌+◌, ℕ, List, Bool, true, false}
 use Rattle.asked_lines.specs.Asked.{asked_step, asking_first}
 use Rattle.asked_lines.specs.Standing.{StandsAsked}
 use Rattle.exchange_sessions.specs.Messages.{messages_output}
-use Rattle.journal_audit.specs.Laws.{OfServe}
 use Rattle.reply_print.specs.Within.{IsLine}
 use Rattle.live_lines.specs.Output.{output_of}
 use Rattle.live_lines.specs.Serving.{IsInputWithin}
 use Rattle.secured_lines.specs.Asked.{secured_asks}
 use Rattle.secured_lines.specs.Output.{secured_line}
-use Rattle.secured_lines.specs.SecuredState.{SecuredState, empty_secured}
+use Rattle.secured_lines.specs.SecuredState.{empty_secured}
 use Rattle.served_members.specs.Members.{empty_members, member_body, member_question}
 use Rattle.session_lines.specs.Questions.{BodyQuestion, any_asks, session_asks}
 use Rattle.session_lines.specs.Sessions.{BodyStep, any_session, new_sessions, session_step}
 use Rattle.reply_ranges.specs.Audits.{NamesNoLine, ServedLinesAreAccepted, ServedMembersAreAccepted, ServedMessagesAreAccepted}
 use Rattle.journal_audit.specs.Findings.{audit_of}
 use Rattle.reply_ranges.proofs.AskedServed.{question_served}
-use Rattle.reply_ranges.proofs.Asking.{IsOneLine, asked_answers, none_asked, passes_asked}
+use Rattle.reply_ranges.proofs.Asking.{asked_answers, none_asked, passes_asked}
 use Rattle.reply_ranges.proofs.MembersServed.{StandsMembers, members_answer, members_are_told}
 use Rattle.reply_ranges.proofs.Messages.{AnswersBodies, StandsBefore, answers_messages, nothing_before, passes as passes_message}
 use Rattle.reply_ranges.proofs.Questions.{TellsBodies, sessions_are_told}
-use Rattle.reply_ranges.proofs.Reports.{accepted_report}
+use Rattle.reply_ranges.proofs.Reports.{IsOneLine, accepted_report}
 use Rattle.reply_ranges.proofs.Runs.{IsAnswered, output_accepted}
-use Rattle.reply_ranges.proofs.SecuredServed.{StandsSecured, line_answers, passes_secured, secured_answers}
+use Rattle.reply_ranges.proofs.SecuredServed.{StandsSecured, passes_secured, secured_answers}
 use Rattle.reply_ranges.proofs.ServedLines.{empty_stands}
+use Rattle.reply_ranges.proofs.Texts.{as_line}
 
 -- ---- lines, between which some ask
 module _ {S : Type 0} (ask : ℕ → S → List ℕ → List ℕ) (step : ℕ → S → List ℕ → List ℕ × S) (Stands : ℕ → S → Type 0)
@@ -38,15 +38,11 @@ module _ {S : Type 0} (ask : ℕ → S → List ℕ → List ℕ) (step : ℕ �
       (λ number state line is_line h. asked_answers ask step Stands passes tells answers number state h is_line line) skips (asking_first start) input within
       (none_asked ask step Stands passes tells answers start first))
 
--- one line of `serve` that is told
-question_told : (number : ℕ) (state : SecuredState) (body : List ℕ) → IsLine number → StandsSecured number state → IsOneLine (secured_asks number state body)
-question_told number state body is_line stands =
-    let own = question_served number is_line state stands body in
-    record { text = own.text; is = own.is; accepted = record { sound = record { reply = OfServe own.reply; is_line = inl own.served }; one = own.one } }
-
 pub served_lines_are_accepted : ServedLinesAreAccepted
 served_lines_are_accepted input within =
-    asked_are_accepted secured_asks secured_line StandsSecured passes_secured question_told (λ number state line is_line stands. line_answers number is_line state stands line) true empty_secured input within empty_stands
+    asked_are_accepted secured_asks secured_line StandsSecured passes_secured
+    (λ number state body is_line stands. as_line (secured_asks number state body) (question_served number is_line state stands body))
+    (λ number state line is_line stands. let now = secured_answers number is_line state stands line in (as_line (secured_line number state line).0 now.0, now.1)) true empty_secured input within empty_stands
 
 -- ---- messages
 module _ {S : Type 0} (step : BodyStep S) (asks : BodyQuestion S) (Stands : ℕ → S → Type 0) (each : AnswersBodies step Stands) (tells : TellsBodies asks Stands) where

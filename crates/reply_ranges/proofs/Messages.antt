@@ -179,30 +179,34 @@ module _ {S : Type 0} (step : BodyStep S) (Stands : ℕ → S → Type 0) (each 
   IsTold = IsAnswered (StandsBefore Stands (number + 1))
 
   pub gate_told : (refused : GateLine) → IsGateWithin refused → (text : List ℕ) → text ≡ gate_line number refused ++ 10 ∷ [] → IsTold (text, state)
-  gate_told refused within text is = record {
-    text = gate_line number refused;
-    is = is;
-    accepted = record {
-      sound = record { reply = OfGate refused; is_line = (number, ((is_line, within), refl)) };
-      one = piece_has_no_feed 6 (gate_piece number refused) (gate_written number refused (is_line, within));
-    };
-    stands = passes Stands number state before;
-  }
+  gate_told refused within text is = (
+    record {
+      text = gate_line number refused;
+      is = is;
+      accepted = record {
+        sound = record { reply = OfGate refused; is_line = (number, ((is_line, within), refl)) };
+        one = piece_has_no_feed 6 (gate_piece number refused) (gate_written number refused (is_line, within));
+      };
+    },
+    passes Stands number state before,
+  )
 
   reply_told : (message : Message) → IsMessage message → (reply : List ℕ) (own : ServedReply) → IsServedLineOf reply own → HasNoFeed reply
       → (next : SessionsState S) → StandsBefore Stands (number + 1) next → IsTold (accepted_text message.session message.number reply, next)
-  reply_told message is reply own served one next stands = record {
-    text = accepted_line message.number message.session reply;
-    is = accepted_is message.session message.number reply;
-    accepted = record {
-      sound = record {
-        reply = OfServe own;
-        is_line = inr (record { number = message.number; session = message.session; inner = reply; message = (is.1, is.0); served = served; is_line = refl });
+  reply_told message is reply own served one next stands = (
+    record {
+      text = accepted_line message.number message.session reply;
+      is = accepted_is message.session message.number reply;
+      accepted = record {
+        sound = record {
+          reply = OfServe own;
+          is_line = inr (record { number = message.number; session = message.session; inner = reply; message = (is.1, is.0); served = served; is_line = refl });
+        };
+        one = accepted_has_none message.session message.number reply one;
       };
-      one = accepted_has_none message.session message.number reply one;
-    };
-    stands = stands;
-  }
+    },
+    stands,
+  )
 
   abbrev told_as : Message → Answer → List ℕ × SessionsState S
   told_as message answer =

@@ -14,9 +14,8 @@ use Rattle.session_lines.specs.Questions.{BodyQuestion, asked_of, asked_text, qu
 use Rattle.session_lines.specs.Served.{without_feed}
 use Rattle.session_lines.specs.Sessions.{BodyStep, SessionsState}
 use Rattle.session_lines.specs.Texts.{malformed_text}
-use Rattle.reply_ranges.proofs.Asking.{IsOneLine}
 use Rattle.reply_ranges.proofs.Messages.{AnswersBodies, StandsBefore, gate_told, malformed_is, number_has_none, number_to_within, tested_has_none, without_it}
-use Rattle.reply_ranges.proofs.Reports.{HasNoFeed}
+use Rattle.reply_ranges.proofs.Reports.{HasNoFeed, IsOneLine}
 use Rattle.reply_ranges.proofs.Texts.{IsServedText, both_have_none}
 
 -- ---- what a line says as a question
@@ -69,13 +68,8 @@ module _ {S : Type 0} (step : BodyStep S) (asks : BodyQuestion S) (Stands : ℕ 
         };
       }
 
-  malformed : IsOneLine (malformed_text number)
-  malformed =
-      let refused = gate_told step Stands each number is_line state before gate.Malformed tt (malformed_text number) (malformed_is number) in
-      record { text = refused.text; is = refused.is; accepted = refused.accepted }
-
   by : (question : Option (ℕ × List ℕ)) → IfSome question IsAsked → IsOneLine (option_map_or (asked_of asks state) question (malformed_text number))
-  by None is = malformed
+  by None is = (gate_told step Stands each number is_line state before gate.Malformed tt (malformed_text number) (malformed_is number)).0
   by (Some question) is = told question is
 
   pub sessions_are_told : (line : List ℕ) → IsOneLine (session_asks asks number state line)

@@ -23,6 +23,12 @@ pub record IsAccepted (text : List ℕ) : Type 0 where
   pub sound : IsAuditedLine text
   pub one : HasNoFeed text
 
+-- with its line feed
+pub record IsOneLine (bytes : List ℕ) : Type 0 where
+  pub text : List ℕ
+  pub is : bytes ≡ text ++ 10 ∷ []
+  pub accepted : IsAccepted text
+
 -- ---- the lines of a text of lines
 pub lines_again : (texts : List (List ℕ)) → All IsAccepted texts → lines_of (with_feeds texts) ≡ texts
 lines_again [] all = refl
@@ -59,9 +65,9 @@ accepted_report bytes h =
 pub no_lines : AreAccepted []
 no_lines = record { texts = []; are_lines = refl; accepted = All-nil IsAccepted }
 
-pub one_more : (text bytes more : List ℕ) → bytes ≡ text ++ 10 ∷ [] → IsAccepted text → AreAccepted more → AreAccepted (bytes ++ more)
-one_more text bytes more is accepted h = record {
-  texts = text ∷ h.texts;
-  are_lines = ap (λ l. l ++ more) is ∙ append_assoc text (10 ∷ []) more ∙ ap (λ l. text ++ 10 ∷ l) h.are_lines;
-  accepted = All-cons IsAccepted text h.texts accepted h.accepted;
+pub one_more : (bytes more : List ℕ) → IsOneLine bytes → AreAccepted more → AreAccepted (bytes ++ more)
+one_more bytes more line h = record {
+  texts = line.text ∷ h.texts;
+  are_lines = ap (λ l. l ++ more) line.is ∙ append_assoc line.text (10 ∷ []) more ∙ ap (λ l. line.text ++ 10 ∷ l) h.are_lines;
+  accepted = All-cons IsAccepted line.text h.texts line.accepted h.accepted;
 }

@@ -1,5 +1,5 @@
 -- What is written for the lines of an input is sound, where the answer to each line is.
-use Rattle.std.proofs.Common.{◌≡◌, ◌≤◌, ℕ, ◌+◌, ◌==◌, List, [], ◌∷◌, ◌++◌, Bool, true, false, length, if◌then◌else◌, sym, subst, arith}
+use Rattle.std.proofs.Common.{◌≤◌, ℕ, ◌+◌, ◌==◌, List, [], ◌∷◌, ◌++◌, Bool, true, false, length, if◌then◌else◌, sym, subst, arith}
 use Rattle.std.specs.List.{slice_split}
 use Rattle.command_text.specs.Lines.{without_last_empty}
 use Rattle.live_lines.specs.Open.{line_text}
@@ -8,14 +8,11 @@ use Rattle.live_lines.specs.Output.{lines_output, output_of}
 use Rattle.live_lines.specs.Serving.{IsInputWithin}
 use Rattle.live_lines.specs.Taken.{AreWithin}
 use Rattle.live_lines.proofs.Places.{no_answer, output_is}
-use Rattle.reply_ranges.proofs.Reports.{AreAccepted, IsAccepted, no_lines, one_more}
+use Rattle.reply_ranges.proofs.Reports.{AreAccepted, IsOneLine, no_lines, one_more}
 
 -- a sound line is written, and what is left stands before the next one
-pub record IsAnswered {S : Type 0} (Next : S → Type 0) (now : List ℕ × S) : Type 0 where
-  pub text : List ℕ
-  pub is : now.0 ≡ text ++ 10 ∷ []
-  pub accepted : IsAccepted text
-  pub stands : Next now.1
+abbrev pub IsAnswered : {S : Type 0} → (S → Type 0) → List ℕ × S → Type 0
+IsAnswered Next now = IsOneLine now.0 × Next now.1
 
 -- the state before the line of each number stands so, behind an empty line as behind one that is
 -- answered
@@ -36,7 +33,7 @@ module _ {S : Type 0} (step : ℕ → S → List ℕ → List ℕ × S) (Stands 
       by false =
           let now = step number state text in
           let one = answers number state text is_line h in
-          one_more one.text now.0 (lines_output step skips (number + 1) now.1 lines).0 one.is one.accepted (later now.1 one.stands)
+          one_more now.0 (lines_output step skips (number + 1) now.1 lines).0 one.0 (later now.1 one.1)
 
   pieces_accepted : (skips : Bool) (number : ℕ) (state : S) (pieces : List (List ℕ)) → 1 ≤ number → AreWithin skips number (without_last_empty pieces) → Stands number state
       → AreAccepted (lines_output step skips number state pieces).0

@@ -1,6 +1,6 @@
 -- Each line of `serve` is sound where accounts may be secured, and what is left stands before the
 -- next one.
-use Rattle.std.proofs.Common.{◌≡◌, ℕ, ◌+◌, ◌≤◌, List, [], ◌∷◌, ◌++◌, Bool, true, false, not, ◌&&◌, is_none, length, nat_le, if◌then◌else◌, Option, Some, None, Result, Ok, Err, inl, refl, sym, subst, arith}
+use Rattle.std.proofs.Common.{◌≡◌, ℕ, ◌+◌, ◌≤◌, List, [], ◌∷◌, ◌++◌, Bool, true, false, not, ◌&&◌, is_none, length, nat_le, if◌then◌else◌, Option, Some, None, Result, Ok, Err, refl, sym, subst, arith}
 use Rattle.std.specs.Prelude.{IfOk}
 use Rattle.std.specs.Option.{option_map_or}
 use Rattle.std.proofs.lemmas.Bool.{leb-true}
@@ -32,7 +32,6 @@ use Rattle.exchange_core.specs.Step.{effect}
 use Rattle.exchange_core.specs.declared.refusal.Refusal.TheVariants as refusal
 use Rattle.exchange_lines.specs.LineSteps.{InputLine}
 use Rattle.frac.specs.Range.{limit as largest}
-use Rattle.journal_audit.specs.Laws.{OfServe}
 use Rattle.lists.specs.Refusals.{first_of}
 use Rattle.proposal_lines.specs.Laws.{IsSound}
 use Rattle.proposal_lines.specs.Output.{proposing_reply_line}
@@ -49,7 +48,6 @@ use Rattle.secured_lines.specs.SecuredState.{SecuredState, exchange_in}
 use Rattle.secured_lines.proofs.LineKinds.{by_answer, by_kind}
 use Rattle.secured_lines.proofs.Telling.{secured_sound}
 use Rattle.reply_ranges.proofs.Others.{refusal_served, run_served}
-use Rattle.reply_ranges.proofs.Runs.{IsAnswered}
 use Rattle.reply_ranges.proofs.ServedLines.{passes, run_stands}
 use Rattle.reply_ranges.proofs.ServingLines.{StandsServing, serving_answers}
 use Rattle.reply_ranges.proofs.States.{IsStanding, later_ranged}
@@ -212,14 +210,3 @@ module _ (number : ℕ) (is_line : IsLine number) (state : SecuredState) (stands
     pub secured_answers : IsServedText (secured_line number state line).0 × StandsSecured (number + 1) (secured_line number state line).1
     secured_answers =
         let now = said_served (said_in SERVED line) refl (said_is_within SERVED line) in (now.0, now.1 (secured_sound asked state stands.sound))
-
-    -- as one of many
-    pub line_answers : IsAnswered (StandsSecured (number + 1)) (secured_line number state line)
-    line_answers =
-        let own = secured_answers.0 in
-        record {
-          text = own.text;
-          is = own.is;
-          accepted = record { sound = record { reply = OfServe own.reply; is_line = inl own.served }; one = own.one };
-          stands = secured_answers.1;
-        }

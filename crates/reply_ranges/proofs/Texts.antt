@@ -1,5 +1,5 @@
 -- The lines of replies within their ranges are sound ones, without a line feed.
-use Rattle.std.proofs.Common.{◌≡◌, ℕ, List, [], ◌∷◌, ◌++◌, true, false, ◌==◌, refl, arith}
+use Rattle.std.proofs.Common.{◌≡◌, ℕ, List, [], ◌∷◌, ◌++◌, true, false, ◌==◌, inl, refl, arith}
 use Rattle.std.proofs.lemmas.Bool.{and_parts}
 use Rattle.std.proofs.lemmas.Bool.Decides.{nat_tests}
 use Rattle.std.proofs.lemmas.List.Elements.{All-nil, All-cons, All-append}
@@ -20,8 +20,8 @@ use Rattle.journal_audit.specs.declared.asked_replies.AskedReply.{AskedReply}
 use Rattle.journal_audit.specs.AskedLines.{IsAskedLineWithin, asked_line, asked_piece}
 use Rattle.journal_audit.proofs.AskedExactly.{asked_written}
 use Rattle.journal_check.specs.Laws.{IfCleared, IsCertified}
-use Rattle.journal_audit.specs.Laws.{IfBounded, IsServedLineOf, OfAsked, OfProposals, OfRun, ServedReply}
-use Rattle.reply_ranges.proofs.Reports.{HasNoFeed}
+use Rattle.journal_audit.specs.Laws.{IfBounded, IsServedLineOf, OfAsked, OfProposals, OfRun, OfServe, ServedReply}
+use Rattle.reply_ranges.proofs.Reports.{HasNoFeed, IsOneLine}
 
 -- ---- plain texts have no line feed
 other_byte : (b : ℕ) → is_plain_byte b ≡ true → (b == 10) ≡ false
@@ -50,6 +50,10 @@ pub record IsServedText (bytes : List ℕ) : Type 0 where
   pub reply : ServedReply
   pub served : IsServedLineOf text reply
   pub one : HasNoFeed text
+
+-- as a line of its own
+pub as_line : (bytes : List ℕ) → IsServedText bytes → IsOneLine bytes
+as_line bytes own = record { text = own.text; is = own.is; accepted = record { sound = record { reply = OfServe own.reply; is_line = inl own.served }; one = own.one } }
 
 -- the verdict on a batch is yes, so it is certified
 certified : (reply : Reply) → core.IfCleared IsJudgedYes reply → IfCleared reply IsCertified
