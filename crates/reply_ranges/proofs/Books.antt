@@ -13,6 +13,7 @@ use Rattle.command_text.proofs.ReadWithin.{said_is_within}
 use Rattle.exchange_core.specs.Step.{batch_in}
 use Rattle.exchange_lines.specs.LineSteps.{InputLine}
 use Rattle.form.specs.declared.orders.Batch.{Batch}
+use Rattle.limits.specs.declared.TheConstants.{MAX_LINES}
 use Rattle.reply_print.specs.Within.{IsLine, IsMarket}
 use Rattle.reply_print.proofs.Ascii.{piece_has_no_feed}
 use Rattle.proposal_text.specs.Pieces.{proposal_line, proposal_piece}
@@ -36,14 +37,14 @@ use Rattle.book_proposals.proofs.FoundBooks.{reads as book_reads}
 use Rattle.book_proposals.proofs.ReadAsHandedIn.{proposals_are_submissions}
 use Rattle.book_proposals.proofs.TakenProposals.{proposals_are_taken}
 use Rattle.reply_ranges.specs.Books.{BooksAreProposedFor, BooksAreTold, IsReadAsBook, IsTakenFor, IsWholeText, TellsLive}
-use Rattle.reply_ranges.proofs.InputLines.{AreCounted, inputs_counted}
+use Rattle.reply_ranges.proofs.Lines.{AreNumbered, input_number, inputs_counted}
 use Rattle.reply_ranges.proofs.ReadAsWritten.{book_is_whole, proposing_is_whole}
 use Rattle.reply_ranges.proofs.ServedLines.{empty_stands, still}
 use Rattle.reply_ranges.proofs.SecuredServed.{StandsSecured, secured_answers}
 use Rattle.reply_ranges.proofs.States.{batch_is_within, live_ranged}
 
 -- ---- before a line of an input
-reached : (low : ℕ) (state : SecuredState) (before later : List InputLine) (line : InputLine) → StandsSecured (low + 1) state → AreCounted low (before ++ line ∷ later)
+reached : (low : ℕ) (state : SecuredState) (before later : List InputLine) (line : InputLine) → StandsSecured (low + 1) state → AreNumbered input_number low MAX_LINES (before ++ line ∷ later)
     → StandsSecured line.number (state_by_lines state before) × IsLine line.number
 reached low state [] later line stands counted = let above = counted.0 in (still (low + 1) line.number state.serving.proposing (omega (arith, above)) stands, (omega (arith, above), counted.1))
 reached low state (first ∷ before) later line stands counted =
@@ -77,7 +78,7 @@ listed_in line market is = subst (λ said. IfOk said RequestIsWithin) is (said_i
 pub books_are_told : BooksAreTold
 books_are_told input before later line market within is asks tells =
     let state = state_by_lines empty_secured before in
-    let now = reached 0 empty_secured before later line empty_stands (subst (AreCounted 0) is (inputs_counted input within)) in (
+    let now = reached 0 empty_secured before later line empty_stands (subst (AreNumbered input_number 0 MAX_LINES) is (inputs_counted input within)) in (
       proposal_line line.number (told.Book market (batch_in (exchange_in state) market)),
       tells_book line.number now.1 state now.0 market tells line.bytes asks,
       as_book line.number now.1 state now.0 market tells (listed_in line.bytes market asks),

@@ -24,6 +24,5 @@ pub mod AskedServed
 pub mod MembersServed
 pub mod Questions
 pub mod Audited
-pub mod InputLines
 pub mod ReadAsWritten
 pub mod Books

@@ -1,12 +1,13 @@
 -- Each line that a run writes, and each reply to commands, is within its ranges.
-use Rattle.std.proofs.Common.{ℕ, ◌+◌, ◌≤◌, List, [], ◌∷◌, length, true, false, ◌==◌, if◌then◌else◌, arith}
+use Rattle.std.proofs.Common.{ℕ, ◌+◌, ◌≤◌, List, [], ◌∷◌, length, sym, subst, arith}
+use Rattle.std.specs.Prelude.{get_or, slice_range}
 use Rattle.std.specs.List.{All}
-use Rattle.std.proofs.lemmas.List.Elements.{All-nil, All-cons, All-head, All-tail, All-append}
+use Rattle.std.proofs.lemmas.List.Elements.{All-nil, All-cons, All-head, All-tail, All-map}
 use Rattle.command_text.specs.declared.command.Body.TheVariants.{Command}
 use Rattle.command_text.specs.declared.command.Command.{Command as CommandOf}
 use Rattle.command_text.specs.declared.command.Line.{Line}
-use Rattle.command_text.specs.Commands.{body_of_line}
-use Rattle.command_text.specs.Lines.{commands_in, line_in, lines_from, pieces_of, without_return}
+use Rattle.command_text.specs.Lines.{commands_in, line_at, raw_lines_in}
+use Rattle.command_text.proofs.LinePlaces.{lines_are_at_their_places}
 use Rattle.command_text.specs.Within.{IsLineWithin, IsWithin}
 use Rattle.command_text.proofs.ReadWithin.{inputs_are_within}
 use Rattle.exchange_core.specs.ExchangeState.{ExchangeState, empty_exchange}
@@ -22,26 +23,19 @@ use Rattle.reply_ranges.proofs.Fields.{fields_are_within}
 use Rattle.reply_ranges.proofs.States.{IsStanding, empty_stands, said_stands, still}
 use Rattle.reply_ranges.proofs.StepReplies.{reply_within, step_within}
 use Rattle.reply_ranges.specs.Accepted.{AnswersAreWithin, IsAnswerWithin}
-use Rattle.reply_ranges.proofs.Lines.{AreNumbered, inputs_numbered}
+use Rattle.reply_ranges.proofs.Lines.{AreNumbered, inputs_numbered, line_number}
 
 -- a line that is refused for a number tells of its field
 abbrev HasFieldIn : Line → Type 0
 HasFieldIn line = HasField line.body
 
-line_has : (number : ℕ) (piece : List ℕ) → All HasFieldIn (line_in number piece)
-line_has number piece =
-    let line : Line = record { number = number; body = body_of_line (without_return piece) } in
-    elim (length (without_return piece) == 0) as (λ b. All HasFieldIn (if b then [] else line ∷ [])) [
-      | true ↦ All-nil HasFieldIn
-      | false ↦ All-cons HasFieldIn line [] (fields_are_within (without_return piece)) (All-nil HasFieldIn)
-    ]
-
-lines_have : (number : ℕ) (pieces : List (List ℕ)) → All HasFieldIn (lines_from number pieces)
-lines_have number [] = All-nil HasFieldIn
-lines_have number (piece ∷ pieces) = All-append HasFieldIn (line_in number piece) (lines_from (number + 1) pieces) (line_has number piece) (lines_have (number + 1) pieces)
+lines_have : (input : List ℕ) → All HasFieldIn (commands_in input)
+lines_have input =
+    let lines = raw_lines_in input in
+    subst (All HasFieldIn) (sym (lines_are_at_their_places input)) (All-map HasFieldIn (line_at input) lines (λ k raw inside. fields_are_within (slice_range input (get_or lines k raw).from (get_or lines k raw).to)))
 
 -- ---- each line
-answers_from_within : (low high : ℕ) (state : ExchangeState) (lines : List Line) → high ≤ MAX_LINES → IsStanding (low + 1) state → AreNumbered low high lines → All IsLineWithin lines → All HasFieldIn lines
+answers_from_within : (low high : ℕ) (state : ExchangeState) (lines : List Line) → high ≤ MAX_LINES → IsStanding (low + 1) state → AreNumbered line_number low high lines → All IsLineWithin lines → All HasFieldIn lines
     → All IsAnswerWithin (answers_from state lines)
 answers_from_within low high state [] most stands numbered within fields = All-nil IsAnswerWithin
 answers_from_within low high state (line ∷ lines) most stands numbered within fields =
@@ -56,7 +50,7 @@ answers_from_within low high state (line ∷ lines) most stands numbered within 
 
 pub answers_are_within : AnswersAreWithin
 answers_are_within input few =
-    answers_from_within 0 (length input) empty_exchange (commands_in input) few empty_stands (inputs_numbered input) (inputs_are_within input) (lines_have 1 (pieces_of input))
+    answers_from_within 0 (length input) empty_exchange (commands_in input) few empty_stands (inputs_numbered input) (inputs_are_within input) (lines_have input)
 
 -- ---- each command
 run_within : (commands : List CommandOf) (number : ℕ) (state : ExchangeState) → 1 ≤ number → number + length commands ≤ MAX_LINES + 1 → All IsWithin commands → IsStanding number state
