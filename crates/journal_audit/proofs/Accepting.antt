@@ -60,7 +60,7 @@ IsNoFault f = fault_in f ≡ None
 
 -- ---- what is found of a reply
 
-run_sound : (reply : Reply) → IfCleared reply IsCertified → IsNoFault (reply_finding reply)
+pub run_sound : (reply : Reply) → IfCleared reply IsCertified → IsNoFault (reply_finding reply)
 run_sound (Opened account) h = refl
 run_sound (Deposited account balance) h = refl
 run_sound (Withdrawn account balance) h = refl

@@ -1,19 +1,18 @@
 -- What a run writes is a sound journal.
-use Rattle.std.proofs.Common.{◌≡◌, ℕ, List, [], ◌∷◌, ◌++◌, map, get_or, None, refl, ap, ◌∙◌, append_assoc}
+use Rattle.std.proofs.Common.{◌≡◌, ℕ, List, [], ◌∷◌, ◌++◌, map, get_or, refl, ap, ◌∙◌, append_assoc}
 use Rattle.std.specs.List.{All}
 use Rattle.std.proofs.lemmas.List.Elements.{All-map}
-use Rattle.exchange_core.specs.Covered.{IfCleared}
-use Rattle.journal_check.specs.Findings.{cleared_finding, fault_in, reply_finding}
+use Rattle.journal_check.specs.Findings.{reply_finding}
 use Rattle.journal_check.specs.Laws.{IsSoundReply, journal_of}
 use Rattle.journal_check.specs.Reports.{sound_report, report_of}
 use Rattle.journal_check.proofs.Journals.{journals_are_counted}
+use Rattle.journal_audit.proofs.Accepting.{run_sound}
 use Rattle.reply_print.specs.declared.replies.Reply.{Reply}
-use Rattle.reply_print.specs.declared.replies.Reply.TheVariants.{Opened, Deposited, Withdrawn, Listed, Placed, Cancelled, Cleared, Settled, Balance, Refused}
 use Rattle.reply_print.specs.ReplyPieces.{reply_line}
-use Rattle.exchange_lines.specs.Promises.{IsJudgedYes}
 use Rattle.exchange_lines.specs.Replies.{Answer, answers, answers_text}
 use Rattle.exchange_lines.proofs.Answered.{answers_are_judged_yes, output_is_answers}
 use Rattle.reply_ranges.specs.Accepted.{IsInput, RunsAreAccepted}
+use Rattle.reply_ranges.proofs.Texts.{certified}
 use Rattle.reply_ranges.proofs.Within.{answers_are_within}
 
 -- the line of an answer and its reply
@@ -26,22 +25,10 @@ text_is_journal (answer ∷ more) =
     append_assoc (reply_line answer.line answer.reply) (10 ∷ []) (answers_text more)
     ∙ ap (λ l. reply_line answer.line answer.reply ++ 10 ∷ l) (text_is_journal more)
 
--- a batch on which the verdict is yes is no fault, and nor is another reply
-no_fault : (reply : Reply) → IfCleared IsJudgedYes reply → fault_in (reply_finding reply) ≡ None
-no_fault (Opened account) h = refl
-no_fault (Deposited account balance) h = refl
-no_fault (Withdrawn account balance) h = refl
-no_fault (Listed market underlyings) h = refl
-no_fault (Placed order) h = refl
-no_fault (Cancelled order) h = refl
-no_fault (Cleared number market batch outcome) h = ap (λ judgement. fault_in (cleared_finding judgement outcome.mark)) h
-no_fault (Settled market lapsed payouts) h = refl
-no_fault (Balance account balance reserved) h = refl
-no_fault (Refused number place) h = refl
-
 sound_answers : (input : List ℕ) → IsInput input → All (λ answer. IsSoundReply (told answer)) (answers input)
 sound_answers input few k answer inside =
-    record { within = answers_are_within input few k answer inside; sound = no_fault (get_or (answers input) k answer).reply (answers_are_judged_yes input k answer inside) }
+    let reply = (get_or (answers input) k answer).reply in
+    record { within = answers_are_within input few k answer inside; sound = run_sound reply (certified reply (answers_are_judged_yes input k answer inside)) }
 
 findings_told : (all : List Answer) → map (λ (pair : ℕ × Reply). reply_finding pair.1) (map told all) ≡ map (λ (answer : Answer). reply_finding answer.reply) all
 findings_told [] = refl

@@ -11,10 +11,8 @@ use Rattle.exchange_core.specs.ExchangeState.{ExchangeState}
 use Rattle.exchange_core.specs.Kept.{IsKept, IsPositionKept}
 use Rattle.exchange_core.specs.Held.{is_held_by, markets_of, underlyings_in}
 use Rattle.form.specs.declared.orders.Order.{Order}
-use Rattle.form.specs.Payoff.{bundle_of, scale_of}
-use Rattle.form.specs.Steps.{bundle_payoff_of}
+use Rattle.form.specs.Payoff.{scale_of}
 use Rattle.frac.specs.Range.{limit as largest}
-use Rattle.line_cover.specs.Net.{add_payoff}
 use Rattle.master_program.specs.Master.{zero_prices}
 use Rattle.master_program.specs.Reading.{Reading}
 use Rattle.master_program.specs.Search.{Found, closed, found, search}
@@ -34,9 +32,10 @@ use Rattle.reply_print.specs.OutcomePieces.{state_entries}
 use Rattle.reply_print.specs.Within as reply
 use Rattle.form.specs.StateOf.{state_of}
 use Rattle.run_values.specs.Values.{AreValues, Ends, IsReadingOf, IsPointOf, IsSmall, IsSmallState, IsValue}
-use Rattle.run_values.proofs.Numbers.{Has, after_has, answer_ends, div_has, fold_has, for_side_has, steps_end, whole_value, zero_value}
-use Rattle.run_values.proofs.Payoffs.{HasListed, bundle_has, legs_small, scale_small}
-use Rattle.run_values.proofs.Readings.{IsFillOf, fills_are}
+use Rattle.run_values.proofs.LineRuns.{net_has}
+use Rattle.run_values.proofs.Numbers.{Has, after_has, answer_ends, div_has, steps_end, whole_value}
+use Rattle.run_values.proofs.Payoffs.{HasListed, scale_small}
+use Rattle.run_values.proofs.Readings.{fills_are}
 use Rattle.run_values.proofs.Searches.{search_ends}
 use Rattle.reply_ranges.proofs.Outcomes.{state_small}
 
@@ -53,13 +52,8 @@ module _ (budget n : ℕ) (orders : List Order) (fills : List Fraction) (listed 
   abbrev asked : MarginQuestion
   asked = record { limit = largest; budget = budget; underlyings = n; orders = orders; fills = fills }
 
-  net_has : (z : List ℕ) → IsSmallState z → Has IsValue (net_at asked z)
-  net_has z small =
-      fold_has IsValue IsFillOf (add_payoff largest z)
-      (λ total fill is of.
-      after_has IsValue IsValue (bundle_payoff_of largest (bundle_of fill.0) z) _ (bundle_has (bundle_of fill.0) z (legs_small fill.0 of.0) small)
-      (λ h pays. for_side_has total fill.0.side fill.1 h is of.1 pays))
-      (whole (pos 0)) (zip orders fills) zero_value (fills_are HasListed orders fills listed are)
+  asked_net : (z : List ℕ) → IsSmallState z → Has IsValue (net_at asked z)
+  asked_net z small = net_has (zip orders fills) z (fills_are HasListed orders fills listed are) small
 
   some_scale : (t : ℕ) → nat_eq t 0 ≡ false → pos t ≢ pos 0
   some_scale zero e = cc
@@ -74,7 +68,7 @@ module _ (budget n : ℕ) (orders : List Order) (fills : List Fraction) (listed 
       by true e = small
       by false e =
           steps_end IsValue IsTurnOf spent (wanted_at asked z) (λ more. done (goes more z) spent)
-          (after_has IsValue IsValue (net_at asked z) (λ net. div_of largest net (whole (pos (scale_of z)))) (net_has z small)
+          (after_has IsValue IsValue (net_at asked z) (λ net. div_of largest net (whole (pos (scale_of z)))) (asked_net z small)
           (λ net v. div_has net (whole (pos (scale_of z))) v (whole_value (pos (scale_of z)) (scale_small z small)) (some_scale (scale_of z) e)))
           (λ more v. (v, small))
 
@@ -115,7 +109,7 @@ module _ (budget n : ℕ) (orders : List Order) (fills : List Fraction) (listed 
   unfolding margin_run
   run_ends =
       let first = zero_prices n in
-      steps_end IsValue IsMarginOf 0 (net_at asked first) (λ L. turns_from asked (budget + 1) L first 0) (net_has first zeros_small)
+      steps_end IsValue IsMarginOf 0 (net_at asked first) (λ L. turns_from asked (budget + 1) L first 0) (asked_net first zeros_small)
       (λ L v. turns_end (budget + 1) L first 0 v zeros_small)
 
 -- ---- what is told of it

@@ -56,7 +56,7 @@ pub as_line : (bytes : List ℕ) → IsServedText bytes → IsOneLine bytes
 as_line bytes own = record { text = own.text; is = own.is; accepted = record { sound = record { reply = OfServe own.reply; is_line = inl own.served }; one = own.one } }
 
 -- the verdict on a batch is yes, so it is certified
-certified : (reply : Reply) → core.IfCleared IsJudgedYes reply → IfCleared reply IsCertified
+pub certified : (reply : Reply) → core.IfCleared IsJudgedYes reply → IfCleared reply IsCertified
 certified (Opened account) h = tt
 certified (Deposited account balance) h = tt
 certified (Withdrawn account balance) h = tt

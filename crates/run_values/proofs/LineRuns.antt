@@ -88,7 +88,7 @@ later_small orders within =
     (All-cons IsSmallState last_state [] (two_small 0 1 (omega arith) (omega arith)) (All-nil IsSmallState))
 
 -- ---- the line
-net_has : (fills : List (Order × Fraction)) (z : List ℕ) → All IsFillOf fills → IsSmallState z → Has IsValue (net_of largest fills z)
+pub net_has : (fills : List (Order × Fraction)) (z : List ℕ) → All IsFillOf fills → IsSmallState z → Has IsValue (net_of largest fills z)
 net_has fills z all small =
     fold_has IsValue IsFillOf (add_payoff largest z)
     (λ total fill is of. after_has IsValue IsValue _ (λ h. add_for_side largest total fill.0.side fill.1 h) (bundle_has (bundle_of fill.0) z (legs_small fill.0 of.0) small) (λ h pays. for_side_has total fill.0.side fill.1 h is of.1 pays))
