@@ -61,7 +61,7 @@ module _ (number : ℕ) (is_line : IsLine number) (state : SecuredState) (stands
   as_book listed =
       let batch = live_ranged number (exchange_in state) stands.exchange market tells in
       let reply = told.Book market live in
-      let within : IsProposalLineWithin number reply = (is_line, (listed, batch_is_within (exchange_in state).book.accepted live batch, batch.within.ids_rise)) in (
+      let within : IsProposalLineWithin number reply = (is_line, (listed, batch_is_within live batch, batch.within.ids_rise)) in (
         list_any_none (λ b. b == 10) (proposal_line number reply) (piece_has_no_feed 6 (proposal_piece number reply) (reply_written number reply within)),
         book_is_whole number market live,
         record { number = number; told = (within, refl); within = batch.within },

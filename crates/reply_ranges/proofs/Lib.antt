@@ -2,7 +2,6 @@ pub mod Entries
 pub mod Fields
 pub mod Refusals
 pub mod States
-pub mod StepReplies
 pub mod Units
 pub mod Outcomes
 pub mod Accepted

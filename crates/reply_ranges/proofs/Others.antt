@@ -69,8 +69,7 @@ use Rattle.reply_print.specs.Within.{IsLine}
 use Rattle.reply_ranges.specs.Laws.{HasField}
 use Rattle.reply_ranges.proofs.Fields.{IsPlacedIn}
 use Rattle.reply_ranges.proofs.Refusals.{IsOne, IsTold, first_told}
-use Rattle.reply_ranges.proofs.States.{IsStanding}
-use Rattle.reply_ranges.proofs.StepReplies.{reply_within}
+use Rattle.reply_ranges.proofs.States.{IsStanding, reply_within}
 use Rattle.reply_ranges.proofs.Margins.{margin_within, need_within}
 use Rattle.reply_ranges.proofs.Texts.{IsServedText, asked_text, proposal_text, run_text}
 
@@ -150,7 +149,7 @@ module _ (number : ℕ) (is_line : IsLine number) (state : ExchangeState) (stand
 
   pub run_served : (said : Body) → BodyIsWithin said → HasField said → IsServedText (reply_line number (reply_to state said).0 ++ 10 ∷ [])
   run_served said within field =
-      run_text number (reply_to state said).0 (is_line, reply_within number is_line state stands said within field)
+      run_text number (reply_to state said).0 (is_line, reply_within number state stands is_line said within field)
       (promises_kept state (record { number = number; body = said }) stands.running.kept).judged
 
   -- what is told of the live orders of a market

@@ -1,11 +1,11 @@
 -- The lines of proposals, of what is read, and of clears are sound.
-use Rattle.std.proofs.Common.{◌≡◌, ℕ, ◌+◌, ◌≤◌, List, [], ◌∷◌, ◌++◌, Bool, true, false, ◌&&◌, nat_eq, drop, if◌then◌else◌, Option, Some, None, Result, Ok, Err, IfOk, refl, sym, ap, ◌∙◌, subst, arith}
+use Rattle.std.proofs.Common.{◌≡◌, ℕ, ◌+◌, List, [], ◌∷◌, ◌++◌, Bool, true, false, ◌&&◌, nat_eq, drop, if◌then◌else◌, Option, Some, None, Result, Ok, Err, IfOk, refl, sym, ap, ◌∙◌, subst, arith}
 use Rattle.std.specs.Prelude.{IfSome}
 use Rattle.std.specs.List.{All}
 use Rattle.std.specs.Option.{option_map_or}
 use Rattle.std.proofs.lemmas.Bool.{and_parts}
 use Rattle.std.proofs.lemmas.Int.{ints}
-use Rattle.std.proofs.lemmas.List.Elements.{All-nil, All-cons, All-head, All-tail, All-append, recursion_from_All}
+use Rattle.std.proofs.lemmas.List.Elements.{All-append, All-filter, filter_passes, recursion_from_All}
 use Rattle.auction_phases.specs.Phases.{ended_in}
 use Rattle.cash_ledger.specs.Refusals.{account_refusals}
 use Rattle.proposal_check.specs.Proposals.{bounded_verdict_of, compared, proposal_bound}
@@ -45,8 +45,6 @@ use Rattle.order_book.specs.Numbers.{numbers_of}
 use Rattle.order_book.specs.Refusals.{live_refusals}
 use Rattle.order_book.proofs.Accepting.{finishable, listing_live}
 use Rattle.order_book.proofs.MarketLists.{same_number}
-use Rattle.form.specs.declared.limits.TheConstants.{MAX_ORDER}
-use Rattle.limits.specs.declared.TheConstants.{MAX_BATCHES}
 use Rattle.lists.specs.Refusals.{first_of}
 use Rattle.settlement.specs.declared.position.Position.{Position}
 use Rattle.reply_print.specs.ReplyPieces.{reply_line}
@@ -104,32 +102,18 @@ proposed_in line request listed =
     let text = drop request.from line in for_market_in text request.market (submission_of text) (some_text text) listed
 
 -- ---- positions
-module _ (state : ExchangeState) (finished : state.book.finished ≤ MAX_BATCHES) (accepted : state.book.accepted ≤ MAX_ORDER) (account market : ℕ) where
-  position_within : (p : Position) → IsNumbered state.book p → IsPositionKept state.accounts state.book.markets p → p.account ≡ account → p.market ≡ market → IsPositionWithin account market p
-  position_within p numbered kept own there = record {
-    account_is = own;
-    market_is = there;
-    batch = (numbered.0.0, omega (arith, numbered.0.1, finished));
-    order = (numbered.1.0, omega (arith, numbered.1.1, accepted));
-    listed = kept.options;
-    filled = let above = kept.filled in omega (arith, ints, above);
-  }
-
-  held_within : (ps : List Position) → All (IsNumbered state.book) ps → All (IsPositionKept state.accounts state.book.markets) ps
-      → All (IsPositionWithin account market) (positions_of account market ps)
-  held_within [] numbered kept = All-nil (IsPositionWithin account market)
-  held_within (p ∷ ps) numbered kept =
-      by (is_held_by account market p) refl
-      (held_within ps (All-tail (IsNumbered state.book) p ps numbered) (All-tail (IsPositionKept state.accounts state.book.markets) p ps kept))
-    where
-      by : (b : Bool) → is_held_by account market p ≡ b → All (IsPositionWithin account market) (positions_of account market ps)
-          → All (IsPositionWithin account market) (if b then p ∷ positions_of account market ps else positions_of account market ps)
-      by true e later =
-          let parts = and_parts (nat_eq p.account account) (nat_eq p.market market) e in
-          All-cons (IsPositionWithin account market) p (positions_of account market ps)
-          (position_within p (All-head (IsNumbered state.book) p ps numbered) (All-head (IsPositionKept state.accounts state.book.markets) p ps kept)
-          (same_number p.account account parts.0) (same_number p.market market parts.1)) later
-      by false e later = later
+position_within : (state : ExchangeState) (account market : ℕ) (p : Position) → IsNumbered p → IsPositionKept state.accounts state.book.markets p → is_held_by account market p ≡ true
+    → IsPositionWithin account market p
+position_within state account market p numbered kept own =
+    let parts = and_parts (nat_eq p.account account) (nat_eq p.market market) own in
+    record {
+      account_is = same_number p.account account parts.0;
+      market_is = same_number p.market market parts.1;
+      batch = numbered.0;
+      order = numbered.1;
+      listed = kept.options;
+      filled = let above = kept.filled in omega (arith, ints, above);
+    }
 
 -- ---- a bounded outcome
 -- a bound is the same as itself
@@ -184,12 +168,14 @@ module _ (number : ℕ) (is_line : IsLine number) (state : ProposingState) (stan
       → reply.IsBatchWithin (batch_in exchange market) × AreRising (batch_in exchange market).orders
   live_within market none =
       let live = live_ranged number exchange stands market none in
-      (batch_is_within exchange.book.accepted (batch_in exchange market) live, live.within.ids_rise)
+      (batch_is_within (batch_in exchange market) live, live.within.ids_rise)
 
   held_all : (account market : ℕ) → All (IsPositionWithin account market) (positions_of account market exchange.positions)
   held_all account market =
-      let book = stands.running.kept.orders.book in
-      held_within exchange book.finished book.accepted account market exchange.positions stands.ranged.positions stands.running.kept.positions
+      let own = is_held_by account market in
+      let numbered = All-filter own IsNumbered exchange.positions stands.ranged.positions in
+      let kept = All-filter own (IsPositionKept exchange.accounts exchange.book.markets) exchange.positions stands.running.kept.positions in
+      λ k d inside. position_within exchange account market _ (numbered k d inside) (kept k d inside) (filter_passes own exchange.positions k d inside)
 
   -- what is read
   unless_served : (refusals : List (Bool × Refusal)) (reply : ProposingReply) → All IsOne refusals → (first_of refusals ≡ None → IsServedReply reply) → IsServedReply (unless_refused refusals reply)
@@ -288,7 +274,7 @@ module _ (number : ℕ) (is_line : IsLine number) (state : ProposingState) (stan
         let few_units = (outcomes_are_ranged (batch_in exchange market) budget batch_of_it.within units.1).0 in
         let same = kept.units in (
           proposal_text number (told.Bounded (exchange.book.finished + 1) market (batch_in exchange market) better)
-              (is_line, ((omega arith, omega (arith, more)), listed, batch_is_within exchange.book.accepted (batch_in exchange market) batch_of_it, (omega (arith, same, few_units), kept.within)))
+              (is_line, ((omega arith, omega (arith, more)), listed, batch_is_within (batch_in exchange market) batch_of_it, (omega (arith, same, few_units), kept.within)))
               (record { yes = kept.yes; covered = is.proves.covered; measured = is.proves.measured; bounds = is.proves.bounds }),
           without_has IsBestWithin market state.kept are,
         )

@@ -50,8 +50,7 @@ use Rattle.secured_lines.proofs.Telling.{secured_sound}
 use Rattle.reply_ranges.proofs.Others.{refusal_served, run_served}
 use Rattle.reply_ranges.proofs.ServedLines.{passes, run_stands}
 use Rattle.reply_ranges.proofs.ServingLines.{StandsServing, serving_answers}
-use Rattle.reply_ranges.proofs.States.{IsStanding, later_ranged}
-use Rattle.reply_ranges.proofs.StepReplies.{balance_ranged}
+use Rattle.reply_ranges.proofs.States.{IsStanding, balance_ranged, later_ranged}
 use Rattle.reply_ranges.proofs.Texts.{IsServedText, proposal_text}
 
 -- ---- needs are within the limit
@@ -155,7 +154,7 @@ module _ (number : ℕ) (is_line : IsLine number) (state : SecuredState) (stands
       → IsServedReply (need_answered account (option_map_or (λ refusal. Err refusal) (first_of ((not opened, Exchange refusal.NoAccount) ∷ [])) (Ok (what_is_told state.secured exchange account))))
   need_by account own false = no_account
   need_by account own true =
-      let small = balance_ranged number is_line exchange stands.exchange exchange account refl (later_ranged number (number + 1) exchange (omega arith) stands.exchange.ranged) in
+      let small = balance_ranged number exchange stands.exchange is_line exchange account refl (later_ranged number (number + 1) exchange (omega arith) stands.exchange.ranged) in
       proposal_text number
       (Account (account_reply.Needs (record {
         account = account;

@@ -20,8 +20,7 @@ use Rattle.reply_print.specs.Within.{IsLine, IsReplyWithin}
 use Rattle.limits.specs.declared.TheConstants.{MAX_LINES}
 use Rattle.reply_ranges.specs.Laws.{HasField, RepliesAreWithin}
 use Rattle.reply_ranges.proofs.Fields.{fields_are_within}
-use Rattle.reply_ranges.proofs.States.{IsStanding, empty_stands, said_stands, still}
-use Rattle.reply_ranges.proofs.StepReplies.{reply_within, step_within}
+use Rattle.reply_ranges.proofs.States.{IsStanding, empty_stands, reply_within, said_stands, step_within, still}
 use Rattle.reply_ranges.specs.Accepted.{AnswersAreWithin, IsAnswerWithin}
 use Rattle.reply_ranges.proofs.Lines.{AreNumbered, inputs_numbered, line_number}
 
@@ -45,7 +44,7 @@ answers_from_within low high state (line ∷ lines) most stands numbered within 
     let below = numbered.1 in
     let is_line : IsLine line.number = (omega (arith, above), omega (arith, below, most)) in
     let now = still (low + 1) line.number state (omega (arith, above)) stands in
-    All-cons IsAnswerWithin (answer_to state line) (answers_from after lines) (is_line, reply_within line.number is_line state now line.body own (All-head HasFieldIn line lines fields))
+    All-cons IsAnswerWithin (answer_to state line) (answers_from after lines) (is_line, reply_within line.number state now is_line line.body own (All-head HasFieldIn line lines fields))
     (answers_from_within line.number high after lines most (said_stands line.number state now line.body own) numbered.2 (All-tail IsLineWithin line lines within) (All-tail HasFieldIn line lines fields))
 
 pub answers_are_within : AnswersAreWithin
@@ -59,7 +58,7 @@ run_within [] number state some few within stands = All-nil IsReplyWithin
 run_within (command ∷ commands) number state some few within stands =
     let now : Reply × ExchangeState = step state command in
     let own = All-head IsWithin command commands within in
-    All-cons IsReplyWithin now.0 (replies_by step now.1 commands) (step_within number (some, omega (arith, few)) state stands command own)
+    All-cons IsReplyWithin now.0 (replies_by step now.1 commands) (step_within number state stands (some, omega (arith, few)) command own)
     (run_within commands (number + 1) now.1 (omega arith) (omega (arith, few)) (All-tail IsWithin command commands within) (said_stands number state stands (Command command) own))
 
 pub replies_are_within : RepliesAreWithin
