@@ -15,12 +15,9 @@ use Rattle.session_lines.specs.Sessions.{BodyStep, any_session, new_sessions, se
 use Rattle.reply_ranges.specs.Audits.{NamesNoLine, ServedLinesAreAccepted, ServedMembersAreAccepted, ServedMessagesAreAccepted}
 use Rattle.journal_audit.specs.Findings.{audit_of}
 use Rattle.reply_ranges.proofs.AskedServed.{question_served}
-use Rattle.reply_ranges.proofs.Asking.{asked_answers, none_asked, passes_asked}
 use Rattle.reply_ranges.proofs.MembersServed.{StandsMembers, members_answer, members_are_told}
-use Rattle.reply_ranges.proofs.Messages.{AnswersBodies, StandsBefore, answers_messages, nothing_before, passes as passes_message}
-use Rattle.reply_ranges.proofs.Questions.{TellsBodies, sessions_are_told}
-use Rattle.reply_ranges.proofs.Reports.{IsOneLine, accepted_report}
-use Rattle.reply_ranges.proofs.Runs.{IsAnswered, output_accepted}
+use Rattle.reply_ranges.proofs.Messages.{AnswersBodies, StandsBefore, TellsBodies, answers_messages, nothing_before, passes as passes_message, sessions_are_told}
+use Rattle.reply_ranges.proofs.Reports.{IsAnswered, IsOneLine, accepted_report, asked_answers, none_asked, output_accepted, passes_asked}
 use Rattle.reply_ranges.proofs.SecuredServed.{StandsSecured, passes_secured, secured_answers}
 use Rattle.reply_ranges.proofs.ServedLines.{empty_stands}
 use Rattle.reply_ranges.proofs.Texts.{as_line}

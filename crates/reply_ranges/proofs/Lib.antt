@@ -1,14 +1,11 @@
-pub mod Entries
 pub mod Fields
 pub mod Refusals
 pub mod States
-pub mod Units
 pub mod Outcomes
 pub mod Accepted
 pub mod Lines
 pub mod Within
 pub mod Reports
-pub mod Runs
 pub mod Margins
 pub mod Texts
 pub mod Others
@@ -18,10 +15,8 @@ pub mod ServedLines
 pub mod ServingLines
 pub mod SecuredServed
 pub mod Messages
-pub mod Asking
 pub mod AskedServed
 pub mod MembersServed
-pub mod Questions
 pub mod Audited
 pub mod ReadAsWritten
 pub mod Books

@@ -31,16 +31,17 @@ use Rattle.journal_audit.specs.declared.gate_lines.GateLine.{GateLine}
 use Rattle.journal_audit.specs.declared.gate_lines.GateLine.TheVariants as gate
 use Rattle.journal_audit.specs.declared.gate_lines.Why.{Why}
 use Rattle.journal_audit.specs.declared.gate_lines.Why.TheVariants as why
-use Rattle.journal_audit.specs.Accepted.{accepted_line, tail_text}
+use Rattle.journal_audit.specs.Accepted.{accepted_line, tail_text, question_line, question_tail}
 use Rattle.journal_audit.specs.GateLines.{IsExpected, IsGateWithin, IsSessionNumber, gate_line, gate_piece, why_number, why_word}
-use Rattle.journal_audit.specs.Laws.{IsServedLineOf, OfGate, OfServe, ServedReply}
+use Rattle.journal_audit.specs.Laws.{IsServedLineOf, OfGate, OfServe, ServedReply, OfQuestion}
 use Rattle.journal_audit.proofs.GateTaken.{gate_written}
 use Rattle.reply_print.specs.Within.{IsLine}
-use Rattle.reply_ranges.proofs.Reports.{HasNoFeed}
-use Rattle.reply_ranges.proofs.Runs.{IsAnswered}
+use Rattle.reply_ranges.proofs.Reports.{HasNoFeed, IsAnswered, IsOneLine}
 use Rattle.reply_ranges.proofs.Texts.{IsServedText, both_have_none, plain_has_none, with_byte}
 use Rattle.reply_print.proofs.Ascii.{piece_has_no_feed}
 use Rattle.reply_print.proofs.Digits.{plain-decimal}
+use Rattle.std.specs.Option.{option_map_or}
+use Rattle.session_lines.specs.Questions.{BodyQuestion, asked_of, asked_text, question_in, question_with, session_asks}
 
 -- ---- what a line says as a message
 abbrev IsMessage : Message → Type 0
@@ -258,3 +259,60 @@ module _ {S : Type 0} (step : BodyStep S) (Stands : ℕ → S → Type 0) (each 
 
   pub answers_messages : (line : List ℕ) → IsTold (session_step step number state line)
   answers_messages line = said_told (message_in line) (message_within line)
+
+-- ---- what a line says as a question
+abbrev IsAsked : ℕ × List ℕ → Type 0
+IsAsked question = IsSessionNumber question.0
+
+asked_with : (session : Option ℕ) (body : List ℕ) → IfSome session IsSessionNumber → IfSome (question_with session body) IsAsked
+asked_with None body s = tt
+asked_with (Some session) body s = elim (is_body body) as (λ b. IfSome (if b then Some (session, body) else None) IsAsked) [ true ↦ s | false ↦ tt ]
+
+asked_first : (parts : Option (List ℕ × List ℕ)) → IfSome (option_and_then (λ parts. question_with (number_to MAX_SESSION parts.0) parts.1) parts) IsAsked
+asked_first None = tt
+asked_first (Some parts) = asked_with (number_to MAX_SESSION parts.0) parts.1 (number_to_within MAX_SESSION parts.0)
+
+question_within : (line : List ℕ) → IfSome (question_in line) IsAsked
+question_within line = asked_first (at_comma line)
+
+-- ---- its text
+asked_is : (session : ℕ) (reply : List ℕ) → asked_text session reply ≡ question_line session reply ++ 10 ∷ []
+asked_is session reply = simp append_assoc
+
+question_has_none : (session : ℕ) (reply : List ℕ) → HasNoFeed reply → HasNoFeed (question_line session reply)
+question_has_none session reply one =
+    both_have_none (codes "{\"of\":") (reply ++ question_tail session) (tested_has_none (codes "{\"of\":") refl)
+    (both_have_none reply (question_tail session) one
+    (both_have_none (codes ",\"reply\":\"asked\",\"session\":") _ (tested_has_none (codes ",\"reply\":\"asked\",\"session\":") refl)
+    (both_have_none (decimal session) (codes "}") (number_has_none session) (tested_has_none (codes "}") refl))))
+
+-- what is asked of bodies is told by a sound line of `serve`
+abbrev pub TellsBodies : {S : Type 0} → BodyQuestion S → (ℕ → S → Type 0) → Type 0
+TellsBodies {S} asks Stands =
+    (session number : ℕ) (state : S) (body : List ℕ) → IsLine number → Stands number state → IsServedText (asks session number state body)
+
+module _ {S : Type 0} (step : BodyStep S) (asks : BodyQuestion S) (Stands : ℕ → S → Type 0) (each : AnswersBodies step Stands) (tells : TellsBodies asks Stands)
+    (number : ℕ) (is_line : IsLine number) (state : SessionsState S) (before : StandsBefore Stands number state) where
+  told : (question : ℕ × List ℕ) → IsAsked question → IsOneLine (asked_of asks state question)
+  told question is =
+      let lt = before.served in
+      let n = state.0.served + 1 in
+      let own = tells question.0 n state.1 question.1 (omega arith, omega (arith, lt, is_line.1)) before.stands in
+      let reply = without_feed (asks question.0 n state.1 question.1) in
+      let same : reply ≡ own.text = ap without_feed own.is ∙ without_it own.text in
+      let served : IsServedLineOf reply own.reply = subst (λ t. IsServedLineOf t own.reply) (sym same) own.served in
+      record {
+        text = question_line question.0 reply;
+        is = asked_is question.0 reply;
+        accepted = record {
+          sound = record { reply = OfQuestion own.reply; is_line = record { session = question.0; inner = reply; is_session = is; served = served; is_line = refl } };
+          one = question_has_none question.0 reply (subst HasNoFeed (sym same) own.one);
+        };
+      }
+
+  by : (question : Option (ℕ × List ℕ)) → IfSome question IsAsked → IsOneLine (option_map_or (asked_of asks state) question (malformed_text number))
+  by None is = (gate_told step Stands each number is_line state before gate.Malformed tt (malformed_text number) (malformed_is number)).0
+  by (Some question) is = told question is
+
+  pub sessions_are_told : (line : List ℕ) → IsOneLine (session_asks asks number state line)
+  sessions_are_told line = by (question_in line) (question_within line)
