@@ -36,9 +36,13 @@ pub behind : (old mid new x y : List ℕ) → mid ≡ old ++ x → new ≡ mid +
 behind old mid new x y h k = k ∙ ap (λ (l : List ℕ). l ++ y) h ∙ append_assoc old x y
 
 -- a text, ahead of which all up to its quotation mark stands, and behind which the other mark and the rest
+pub marked_behind : (old mid new ahead text rest : List ℕ) → mid ≡ old ++ (ahead ++ text) → new ≡ mid ++ 34 ∷ rest → new ≡ old ++ (ahead ++ ((text ++ 34 ∷ []) ++ rest))
+marked_behind old mid new ahead text rest h e =
+    behind old mid new (ahead ++ text) (34 ∷ rest) h e ∙ ap (λ (l : List ℕ). old ++ l) (append_assoc ahead text (34 ∷ rest) ∙ ap (λ (l : List ℕ). ahead ++ l) (sym (append_assoc text (34 ∷ []) rest)))
+
+-- and so where the text goes behind its mark alone
 pub quoted_behind : (old a b new ahead text rest : List ℕ) → a ≡ old ++ ahead → b ≡ a ++ text → new ≡ b ++ 34 ∷ rest → new ≡ old ++ (ahead ++ ((text ++ 34 ∷ []) ++ rest))
-quoted_behind old a b new ahead text rest h k e =
-    behind old a new ahead (text ++ 34 ∷ rest) h (behind a b new text (34 ∷ rest) k e) ∙ ap (λ (l : List ℕ). old ++ (ahead ++ l)) (sym (append_assoc text (34 ∷ []) rest))
+quoted_behind old a b new ahead text rest h k e = marked_behind old b new ahead text rest (behind old a b ahead text h k) e
 
 -- an item behind its comma
 pub item_added : (old mid new comma : List ℕ) (later : Bool) (p : Piece) → comma ≡ comma_after later → mid ≡ old ++ comma → new ≡ mid ++ piece_text p

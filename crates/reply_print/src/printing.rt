@@ -150,6 +150,16 @@ pub(crate) fn add_behind<P: Printed>(
     value.print(line)
 }
 
+// Adds a whole number of any size, and at once all that stands before it, up to a quotation mark.
+#[inline(always)]
+pub(crate) fn add_whole(line: &mut Vec<u8>, before: &str, value: &i128) -> Result<(), AllocError>
+    ensures { OnOk result (line.new.items
+        ≡ line.old.items ++ (before.now ++ piece_text (whole value.now))) }
+{
+    append(line, before)?;
+    append(line, Buffer::new().format(*value))
+}
+
 /// Adds a field of a plain text.
 #[inline(always)]
 pub fn add_words(line: &mut Vec<u8>, later: bool, key: &str, text: &str) -> Result<(), AllocError>

@@ -1,10 +1,11 @@
 // Replies without lists, added to a line. Most lines are such, so what stands between their numbers
 // is added at once.
-ghost use Rattle.std.specs.Prelude.{◌≡◌, ◌++◌, OnOk, false, true};
-ghost use Rattle.reply_print.specs.Piece.{Fields, fields_text, piece_text};
+ghost use Rattle.std.specs.Prelude.{◌≡◌, ◌++◌, OnOk, codes, true};
+ghost use Rattle.reply_print.specs.BatchPieces.{natural};
+ghost use Rattle.reply_print.specs.Piece.{Fields, field as field_behind, fields_text, object, piece_text};
 ghost use Rattle.reply_print.specs.ReplyPieces.{balance_piece, field_field, listed_piece, moved_piece, opened_piece, ordered_piece, refused_piece};
 
-use crate::printing::{add_behind, add_number, append};
+use crate::printing::{add_behind, add_whole, append};
 use crate::words::reason;
 use std::alloc::AllocError;
 
@@ -29,8 +30,8 @@ pub(crate) fn add_moved(
         ≡ text.old.items ++ piece_text (moved_piece reply.now line account balance.now)) }
 {
     add_behind(text, "{\"account\":", &u64::from(account))?;
-    add_behind(text, ",\"balance\":", balance)?;
-    add_behind(text, ",\"line\":", &u64::from(line))?;
+    add_whole(text, ",\"balance\":\"", balance)?;
+    add_behind(text, "\",\"line\":", &u64::from(line))?;
     append(text, ",\"reply\":\"")?;
     append(text, reply)?;
     append(text, "\"}")
@@ -83,21 +84,23 @@ pub(crate) fn add_balance(
         ≡ text.old.items ++ piece_text (balance_piece line account balance.now reserved.now)) }
 {
     add_behind(text, "{\"account\":", &u64::from(account))?;
-    add_behind(text, ",\"balance\":", balance)?;
-    add_behind(text, ",\"line\":", &u64::from(line))?;
-    add_behind(text, ",\"reply\":\"balance\",\"reserved\":", reserved)?;
-    append(text, "}")
+    add_whole(text, ",\"balance\":\"", balance)?;
+    add_behind(text, "\",\"line\":", &u64::from(line))?;
+    add_whole(text, ",\"reply\":\"balance\",\"reserved\":\"", reserved)?;
+    append(text, "\"}")
 }
 
-// Adds the field that a refusal names, where it names one.
-fn add_place(text: &mut Vec<u8>, is_range: bool, field: u8) -> Result<(), AllocError>
-    ensures { OnOk result ((fs : Fields) → text.new.items ++ fields_text is_range fs
-        ≡ text.old.items ++ fields_text false (field_field is_range field fs)) }
+// A refusal up to its line, with the field where it names one.
+fn add_head(text: &mut Vec<u8>, is_range: bool, field: u8, line: u32) -> Result<(), AllocError>
+    ensures { OnOk result ((fs : Fields) → text.new.items ++ fields_text true fs
+        ≡ text.old.items ++ piece_text (object (field_field is_range field
+        (field_behind (codes "line") (natural line) fs)))) }
 {
     if is_range {
-        add_number(text, false, "field", u64::from(field))
+        add_behind(text, "{\"field\":", &u64::from(field))?;
+        add_behind(text, ",\"line\":", &u64::from(line))
     } else {
-        Ok(())
+        add_behind(text, "{\"line\":", &u64::from(line))
     }
 }
 
@@ -110,10 +113,7 @@ pub(crate) fn add_refused(
     ensures { OnOk result (text.new.items
         ≡ text.old.items ++ piece_text (refused_piece line number field)) }
 {
-    let is_range = number == 8;
-    append(text, "{")?;
-    add_place(text, is_range, field)?;
-    add_number(text, is_range, "line", u64::from(line))?;
+    add_head(text, number == 8, field, line)?;
     add_behind(text, ",\"number\":", &u64::from(number))?;
     append(text, ",\"reason\":\"")?;
     append(text, reason(number))?;
