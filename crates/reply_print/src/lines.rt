@@ -5,7 +5,7 @@ ghost use Rattle.reply_print.specs.ReplyPieces.{reply_line};
 use crate::Reply;
 use crate::cleared_lines::{add_cleared, add_settled};
 use crate::small_lines::{
-    add_balance, add_listed, add_moved, add_opened, add_ordered, add_refused,
+    add_balance, add_cancelled, add_listed, add_moved, add_opened, add_placed, add_refused,
 };
 use std::alloc::{AllocError, Global};
 
@@ -28,8 +28,8 @@ fn add_reply(text: &mut Vec<u8>, line: u32, reply: &Reply) -> Result<(), AllocEr
             market,
             underlyings,
         } => add_listed(text, line, *market, *underlyings),
-        Reply::Placed { order } => add_ordered(text, "placed", line, *order),
-        Reply::Cancelled { order } => add_ordered(text, "cancelled", line, *order),
+        Reply::Placed { order } => add_placed(text, line, *order),
+        Reply::Cancelled { order } => add_cancelled(text, line, *order),
         Reply::Cleared {
             number,
             market,

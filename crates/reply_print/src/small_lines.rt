@@ -56,21 +56,31 @@ pub(crate) fn add_listed(
     append(text, "}")
 }
 
-// What became of an order, under the word of the reply.
-pub(crate) fn add_ordered(
-    text: &mut Vec<u8>,
-    reply: &str,
-    line: u32,
-    order: u64,
-) -> Result<(), AllocError>
-    ensures { OnOk result (text.new.items
-        ≡ text.old.items ++ piece_text (ordered_piece reply.now line order)) }
+// What became of an order, up to the word of the reply.
+#[inline(always)]
+fn add_order(text: &mut Vec<u8>, line: u32, order: u64) -> Result<(), AllocError>
+    ensures { OnOk result ((fs : Fields) → text.new.items ++ fields_text true fs
+        ≡ text.old.items ++ piece_text (object (field_behind (codes "line") (natural line)
+        (field_behind (codes "order") (natural order) fs)))) }
 {
     add_behind(text, "{\"line\":", &u64::from(line))?;
-    add_behind(text, ",\"order\":", &order)?;
-    append(text, ",\"reply\":\"")?;
-    append(text, reply)?;
-    append(text, "\"}")
+    add_behind(text, ",\"order\":", &order)
+}
+
+pub(crate) fn add_placed(text: &mut Vec<u8>, line: u32, order: u64) -> Result<(), AllocError>
+    ensures { OnOk result (text.new.items
+        ≡ text.old.items ++ piece_text (ordered_piece (codes "placed") line order)) }
+{
+    add_order(text, line, order)?;
+    append(text, ",\"reply\":\"placed\"}")
+}
+
+pub(crate) fn add_cancelled(text: &mut Vec<u8>, line: u32, order: u64) -> Result<(), AllocError>
+    ensures { OnOk result (text.new.items
+        ≡ text.old.items ++ piece_text (ordered_piece (codes "cancelled") line order)) }
+{
+    add_order(text, line, order)?;
+    append(text, ",\"reply\":\"cancelled\"}")
 }
 
 pub(crate) fn add_balance(

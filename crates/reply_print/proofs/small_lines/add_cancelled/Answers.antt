@@ -1,0 +1,7 @@
+use Rattle.std.proofs.Common.{codes, ◌∙◌}
+use Rattle.std.proofs.lemmas.Result.{on_ok_weaker}
+use Rattle.reply_print.specs.Piece.{words, no_fields, field}
+use Rattle.reply_print.proofs.small_lines.add_cancelled.Goals as goal
+
+pub returns : goal.returns
+returns c = on_ok_weaker c.append.result (λ e. e ∙ c.in_ok-add_order.ensures (field (codes "reply") (words (codes "cancelled")) no_fields)) c.append.ensures
