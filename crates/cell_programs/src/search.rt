@@ -14,7 +14,7 @@ use std::alloc::{AllocError, Global};
 const ROUNDS: u32 = 400;
 
 /// A search as far as it has come: the master program, the tree, the measure of the least bound, and
-/// what climbs cost so far.
+/// what climbs and trees before cost.
 #[derive(Drop)]
 pub struct Search {
     pub master: Master,
@@ -66,6 +66,39 @@ impl Search {
         })
     }
 
+    /// A search over a book with the same orders at other limits, whose master program begins with
+    /// the states of this one. The error is want of memory.
+    pub fn for_book(
+        &self,
+        alloc: Global,
+        book: &Book,
+        classes: &Classes,
+    ) -> Result<Search, AllocError> {
+        let tree = CellTree::new(alloc, classes.classes.len())?;
+        Ok(Search {
+            master: self.master.for_book(book)?,
+            tree,
+            measure: None,
+            draws: Draws { seed: SEED },
+            climbed: 0,
+        })
+    }
+
+    /// Begins with a part of the book, with a tree of one leaf, where the master program stands. The
+    /// error is want of memory.
+    pub fn turn_to(
+        &mut self,
+        alloc: Global,
+        part: &Book,
+        classes: &Classes,
+    ) -> Result<(), AllocError> {
+        self.count(self.tree.work);
+        self.tree = CellTree::new(alloc, classes.classes.len())?;
+        self.measure = None;
+        self.master.bound_fills(part);
+        Ok(())
+    }
+
     /// What it cost so far: how many entries the turns of its tables went over.
     pub fn work(&self) -> u64 {
         self.master
@@ -77,6 +110,42 @@ impl Search {
     /// The measure of the least bound, which is none then.
     pub fn take_measure(&mut self) -> Option<WholeMeasure> {
         std::mem::replace(&mut self.measure, None)
+    }
+
+    /// Adds to what it cost so far.
+    pub fn count(&mut self, work: u64) {
+        self.climbed = self.climbed.saturating_add(work);
+    }
+
+    /// The measure that rounds of the master program and climbs alone come to, within a target and by
+    /// about so much work. The error is want of memory.
+    pub fn priced(
+        &mut self,
+        alloc: Global,
+        book: &Book,
+        target: f64,
+        most: u64,
+    ) -> Result<WholeMeasure, AllocError> {
+        for _ in 0..ROUNDS {
+            self.master.solve(book)?;
+            if self.work() >= most || !self.climb(alloc, book, target)? {
+                break;
+            }
+        }
+        measure_of(alloc, book, &self.master)
+    }
+
+    // Climbs, and adds the states that are violated most. Answers whether there was one.
+    fn climb(&mut self, alloc: Global, book: &Book, target: f64) -> Result<bool, AllocError> {
+        let forgiven = self.forgiven(book, target);
+        climb(
+            alloc,
+            book,
+            &mut self.master,
+            &mut self.draws,
+            forgiven,
+            &mut self.climbed,
+        )
     }
 
     // What of a surplus is forgiven by a target.
@@ -107,18 +176,10 @@ impl Search {
         if self.work() >= caps.work {
             return Ok(Round::Full);
         }
-        let forgiven = self.forgiven(book, target);
-        let master = &mut self.master;
-        if climb(
-            alloc,
-            book,
-            master,
-            &mut self.draws,
-            forgiven,
-            &mut self.climbed,
-        )? {
+        if self.climb(alloc, book, target)? {
             return Ok(Round::On);
         }
+        let forgiven = self.forgiven(book, target);
         let left = self.left(caps);
         let master = &self.master;
         let states = grow(alloc, book, classes, master, &mut self.tree, forgiven, left)?;

@@ -8,9 +8,10 @@ use crate::written::{CellCover, Room};
 use bundle_match::match_each;
 use form::Batch;
 use near_programs::numbers::two_to;
-use near_programs::parts::{Growth, part_of};
+use near_programs::parts::{Growth, filled_gains, part_of, with_worse_limits};
 use near_programs::rounding::{
-    FILL_BITS, WEIGHT_BITS, WholeMeasure, gains_of, less_fills, premium, rounded_fills,
+    FILL_BITS, WEIGHT_BITS, WholeMeasure, gains_of, less_fills, measure_of, premium, rounded_fills,
+    spreads_of,
 };
 use near_programs::starts::closer_measure;
 use near_programs::{Book, SMALL, from_zero};
@@ -26,8 +27,12 @@ const ATTEMPTS: u32 = 4;
 const PARTS: u32 = 12;
 // Where the tree as it is misses at most one in so many of the bound, no part is tried.
 const MOST_MISSED: i128 = 128;
-// The most that the work of a part is of that of the whole.
-const PART_SHARE: u64 = 4;
+// The share of its spread by which an order's limit is worse where orders are ranked.
+const SPREAD_SHARE: f64 = 0.015625;
+// The most that the ranking of orders costs of what parts may cost.
+const RANKING_SHARE: u64 = 8;
+// Where less than one in so many of what parts may cost is left, no part is tried.
+const LAST_SHARE: u64 = 32;
 
 /// How far a search may go, and how long a cover may be. The parts of a batch that is too much may
 /// cost as much work again.
@@ -37,11 +42,11 @@ pub struct Limits {
     pub room: Room,
 }
 
-/// The limits that a proposal is made within: more than twenty times what the dearest of the books of
+/// The limits that a proposal is made within: more than ten times what the dearest of the books of
 /// 256 orders on three underlyings cost that were tried, and a line of 16,777,216 bytes.
 pub const LIMITS: Limits = Limits {
     caps: Caps {
-        work: 4_000_000_000,
+        work: 3_200_000_000,
         nodes: 50_000,
     },
     room: Room {
@@ -191,70 +196,107 @@ fn answer_in_turn(
 // What answers a part of the book in which these orders may be filled.
 fn answer_part(
     netted: Netted,
+    search: &mut Search,
     keeps: &[bool],
     limits: Limits,
-    work: &mut u64,
 ) -> Result<Option<CellAnswer>, AllocError> {
     let part = part_of(netted.alloc, netted.book, keeps)?;
     let netted = Netted {
         book: &part,
         ..netted
     };
-    let mut search = Search::new(netted.alloc, &part, netted.classes)?;
-    let found = answer_in_turn(netted, &mut search, limits)?;
-    *work = (*work).saturating_add(search.work());
+    search.turn_to(netted.alloc, &part, netted.classes)?;
+    let mut found = None;
+    let _ = answer_within(netted, search, TARGETS[0], limits, &mut found)?;
     Ok(found)
+}
+
+// What the fills of the book whose limits are worse gain at its prices, order by order. At those of
+// the book itself the orders that hedge others gain nothing, so that these would not be told from
+// orders that nothing needs.
+fn firm_gains(
+    netted: Netted,
+    whole: &mut Search,
+    measure: &WholeMeasure,
+    limits: Limits,
+) -> Result<Vec<i128>, AllocError> {
+    let (alloc, book) = (netted.alloc, netted.book);
+    let spreads = spreads_of(alloc, book, measure)?;
+    let worse = with_worse_limits(alloc, book, &spreads, SPREAD_SHARE)?;
+    let mut search = whole.for_book(alloc, &worse, netted.classes)?;
+    let measure = search.priced(alloc, &worse, TARGETS[0], limits.caps.work / RANKING_SHARE)?;
+    whole.count(search.work());
+    let gains = gains_of(alloc, book, &measure)?;
+    filled_gains(alloc, book, &gains, &search.master.fills)
+}
+
+// How parts grow at first: by firm gains, or where nothing is filled then, by those at a measure.
+fn first_growth(
+    netted: Netted,
+    whole: &mut Search,
+    measure: &WholeMeasure,
+    limits: Limits,
+) -> Result<Growth, AllocError> {
+    let gains = firm_gains(netted, whole, measure, limits)?;
+    let growth = Growth::new(netted.alloc, netted.book, gains)?;
+    if !growth.is_over() {
+        return Ok(growth);
+    }
+    let gains = gains_of(netted.alloc, netted.book, measure)?;
+    Growth::new(netted.alloc, netted.book, gains)
 }
 
 // Solves the next part, and keeps its answer where it earns more.
 fn try_part(
     netted: Netted,
+    search: &mut Search,
     limits: Limits,
     growth: &mut Growth,
-    work: &mut u64,
     best: &mut Option<CellAnswer>,
 ) -> Result<(), AllocError> {
     let keeps = growth.with_next()?;
-    let found = answer_part(netted, &keeps, limits, work)?;
+    let found = answer_part(netted, search, &keeps, limits)?;
     if found.is_none() {
         growth.leave();
         return Ok(());
     }
-    growth.take(keeps);
+    let measure = measure_of(netted.alloc, netted.book, &search.master)?;
+    growth.take(keeps, gains_of(netted.alloc, netted.book, &measure)?);
     keep_better(best, found);
     Ok(())
 }
 
-// Limits of a part, with what is left of the work.
-fn part_limits(limits: Limits, work: u64) -> Limits {
-    let left = limits.caps.work.saturating_sub(work);
-    let share = limits.caps.work / PART_SHARE;
+// Limits of a part, where the search cost so much already and may cost so much in the end: a half of
+// what is left.
+fn part_limits(limits: Limits, work: u64, end: u64) -> Limits {
+    let left = end.saturating_sub(work);
     Limits {
         caps: Caps {
-            work: left.min(share),
+            work: work.saturating_add(left / 2),
             nodes: limits.caps.nodes,
         },
-        room: limits.room,
+        ..limits
     }
 }
 
-// Solves parts of the book: the orders that gain most at a measure, more and more of them. Answers
-// that of the part that earns most.
+// Solves parts of the book: the orders whose fills gain most, and then more and more of those that
+// gain most at the prices of the part before. Answers that of the part that earns most.
 fn answer_in_parts(
     netted: Netted,
+    search: &mut Search,
     measure: &WholeMeasure,
     limits: Limits,
 ) -> Result<Option<CellAnswer>, AllocError> {
-    let gains = gains_of(netted.alloc, netted.book, measure)?;
-    let mut growth = Growth::new(netted.alloc, netted.book, &gains)?;
+    let end = search.work().saturating_add(limits.caps.work);
+    let mut growth = first_growth(netted, search, measure, limits)?;
     let mut best = None;
-    let mut work = 0u64;
     for _ in 0..PARTS {
-        if growth.is_over() || work >= limits.caps.work {
+        let work = search.work();
+        if growth.is_over() || work >= end.saturating_sub(limits.caps.work / LAST_SHARE) {
             break;
         }
-        let part = part_limits(limits, work);
-        try_part(netted, part, &mut growth, &mut work, &mut best)?;
+        let part = part_limits(limits, work, end);
+        try_part(netted, search, part, &mut growth, &mut best)?;
     }
     Ok(best)
 }
@@ -275,7 +317,7 @@ fn is_enough(book: &Book, found: &Option<CellAnswer>, measure: &WholeMeasure) ->
 // part of the book, whichever earns more.
 fn answer_at_cap(
     netted: Netted,
-    search: &Search,
+    search: &mut Search,
     measure: &WholeMeasure,
     limits: Limits,
 ) -> Result<Option<CellAnswer>, AllocError> {
@@ -283,7 +325,7 @@ fn answer_at_cap(
     if is_enough(netted.book, &best, measure) {
         return Ok(best);
     }
-    let part = answer_in_parts(netted, measure, limits)?;
+    let part = answer_in_parts(netted, search, measure, limits)?;
     keep_better(&mut best, part);
     Ok(best)
 }

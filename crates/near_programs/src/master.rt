@@ -216,6 +216,23 @@ impl Master {
         Ok(())
     }
 
+    /// The program of a book with the same orders at other limits over the same states, not solved
+    /// yet. The error is want of memory.
+    pub fn for_book(&self, book: &Book) -> Result<Master, AllocError> {
+        let states = self.live_states()?;
+        let mut master = Master::new(self.alloc, book)?;
+        master.add_states(book, &states)?;
+        Ok(master)
+    }
+
+    /// Bounds the fills as a book does with the same orders at the same limits. What was solved stays
+    /// near.
+    pub fn bound_fills(&mut self, book: &Book) {
+        for (i, order) in book.orders.iter().enumerate() {
+            self.table.change_upper(i, order.most / order.unit);
+        }
+    }
+
     /// The program over the same states with rays as they are, solved: its prices bound more
     /// closely, but its fills leave no room to be rounded. The error is want of memory.
     pub fn for_prices(&self, book: &Book) -> Result<Master, AllocError> {

@@ -1,26 +1,18 @@
 //! Parts of a book whose tree does not fit: the orders without a long leg, and of the others those
-//! of greatest gain.
+//! of greatest gain; and the book whose limits are worse, whose prices rank them.
 
 use crate::book::{Book, NearLeg, NearOrder};
-use crate::numbers::whole_at;
+use crate::numbers::{float_of, nearest_whole, whole_at};
+use crate::rounding::WEIGHT_BITS;
+use crate::rows::{entry, power};
 use std::alloc::{AllocError, Global};
 
 // The orders with a long leg in the first part.
 const FIRST_GROUP: usize = 12;
+// Less than any order's scaled quantity above 0.
+const LEAST_MOST: f64 = 1e-18;
 // The most parts that do not fit.
 const MISFITS: u32 = 6;
-
-// How many orders with a long leg have a greater gain, or the same and stand before.
-fn rank(book: &Book, gains: &[i128], place: usize, gain: i128) -> usize {
-    let mut rank = 0usize;
-    for (i, order) in book.orders.iter().enumerate() {
-        let other = whole_at(gains, i);
-        if order.has_long && (other > gain || (other == gain && i < place)) {
-            rank = rank.saturating_add(1);
-        }
-    }
-    rank
-}
 
 // The order, or the same with nothing to fill.
 fn kept_or_not(order: &NearOrder, is_kept: bool) -> NearOrder {
@@ -38,29 +30,6 @@ fn copy_legs(alloc: Global, legs: &[NearLeg]) -> Result<Vec<NearLeg>, AllocError
         copies.push(*leg)?;
     }
     Ok(copies)
-}
-
-// How many orders have a long leg.
-fn count_long(book: &Book) -> usize {
-    book.orders.iter().filter(|order| order.has_long).count()
-}
-
-// The places of the orders with a long leg, those of greatest gain first. The error is want of
-// memory.
-fn ranked(alloc: Global, book: &Book, gains: &[i128]) -> Result<Vec<usize>, AllocError> {
-    let mut places = vec![in alloc; 0usize; count_long(book)]?;
-    for (i, order) in book.orders.iter().enumerate() {
-        if order.has_long {
-            set_place(&mut places, rank(book, gains, i, whole_at(gains, i)), i);
-        }
-    }
-    Ok(places)
-}
-
-fn set_place(places: &mut [usize], rank: usize, place: usize) {
-    if let Some(old) = places.get_mut(rank) {
-        *old = place;
-    }
 }
 
 // Whether each order has no long leg.
@@ -92,6 +61,47 @@ pub fn part_of(alloc: Global, book: &Book, keeps: &[bool]) -> Result<Book, Alloc
     for (i, order) in book.orders.iter().enumerate() {
         orders.push(kept_or_not(order, is_kept(keeps, i)))?;
     }
+    with_orders(alloc, book, orders)
+}
+
+/// What scaled fills gain of what the orders gain where they are filled whole. The error is want of
+/// memory.
+pub fn filled_gains(
+    alloc: Global,
+    book: &Book,
+    gains: &[i128],
+    fills: &[f64],
+) -> Result<Vec<i128>, AllocError> {
+    let mut filled = Vec::new(alloc);
+    for (i, order) in book.orders.iter().enumerate() {
+        let share = entry(fills, i) / order.most.max(LEAST_MOST);
+        filled.push(nearest_whole(float_of(whole_at(gains, i)) * share))?;
+    }
+    Ok(filled)
+}
+
+/// The book in which each order's scaled limit is worse by a share of its spread, in units of
+/// 2^-(40 + time). The error is want of memory.
+pub fn with_worse_limits(
+    alloc: Global,
+    book: &Book,
+    spreads: &[i128],
+    share: f64,
+) -> Result<Book, AllocError> {
+    let scales = book.scales;
+    let unit = power(WEIGHT_BITS) * power(scales.time) * power(scales.money);
+    let mut orders = Vec::new(alloc);
+    for (i, order) in book.orders.iter().enumerate() {
+        let mut worse = *order;
+        let spread = float_of(whole_at(spreads, i)) / unit;
+        worse.scaled_limit = order.scaled_limit - spread * share;
+        orders.push(worse)?;
+    }
+    with_orders(alloc, book, orders)
+}
+
+// The book with these in the place of its orders.
+fn with_orders(alloc: Global, book: &Book, orders: Vec<NearOrder>) -> Result<Book, AllocError> {
     Ok(Book {
         underlyings: book.underlyings,
         scales: book.scales,
@@ -105,47 +115,74 @@ pub fn part_of(alloc: Global, book: &Book, keeps: &[bool]) -> Result<Book, Alloc
 /// then on; an order that alone does not fit is left out.
 #[derive(Drop)]
 pub struct Growth {
-    ranked: Vec<usize>,
+    gains: Vec<i128>,
     keeps: Vec<bool>,
-    next: usize,
+    // those kept and those left out
+    decided: Vec<bool>,
+    kept: usize,
     group: usize,
     misfits: u32,
 }
 
+// The place of the greatest gain above 0 of an order that is not decided on.
+fn best_place(gains: &[i128], decided: &[bool]) -> Option<usize> {
+    let mut most = 0i128;
+    let mut best = None;
+    for (i, gain) in gains.iter().enumerate() {
+        if *gain > most && !is_kept(decided, i) {
+            most = *gain;
+            best = Some(i);
+        }
+    }
+    best
+}
+
 impl Growth {
-    /// Nothing with a long leg yet. The error is want of memory.
-    pub fn new(alloc: Global, book: &Book, gains: &[i128]) -> Result<Growth, AllocError> {
+    /// Nothing with a long leg yet, by these gains. The error is want of memory.
+    pub fn new(alloc: Global, book: &Book, gains: Vec<i128>) -> Result<Growth, AllocError> {
+        let keeps = without_long(alloc, book)?;
+        let decided = keeps.clone()?;
         Ok(Growth {
-            ranked: ranked(alloc, book, gains)?,
-            keeps: without_long(alloc, book)?,
-            next: 0,
+            gains,
+            keeps,
+            decided,
+            kept: 0,
             group: FIRST_GROUP,
             misfits: 0,
         })
     }
 
-    /// Whether all orders were tried, or as many parts did not fit as may.
+    /// Whether no order is left that gains, or as many parts did not fit as may.
     pub fn is_over(&self) -> bool {
-        self.next >= self.ranked.len() || self.misfits >= MISFITS
+        best_place(&self.gains, &self.decided).is_none() || self.misfits >= MISFITS
     }
 
     /// The orders that fit so far, and the next group. The error is want of memory.
     pub fn with_next(&self) -> Result<Vec<bool>, AllocError> {
         let mut keeps = self.keeps.clone()?;
-        for rank in self.next..self.next.saturating_add(self.group) {
-            if let Some(place) = self.ranked.get(rank) {
-                keep(&mut keeps, *place);
-            }
+        let mut decided = self.decided.clone()?;
+        for _ in 0..self.group {
+            let Some(place) = best_place(&self.gains, &decided) else {
+                break;
+            };
+            keep(&mut decided, place);
+            keep(&mut keeps, place);
         }
         Ok(keeps)
     }
 
-    /// Notes that they fit.
-    pub fn take(&mut self, keeps: Vec<bool>) {
+    /// Notes that they fit, and what each order gains where these are filled.
+    pub fn take(&mut self, keeps: Vec<bool>, gains: Vec<i128>) {
+        for (i, is_new) in keeps.iter().enumerate() {
+            if *is_new {
+                keep(&mut self.decided, i);
+            }
+        }
         self.keeps = keeps;
-        self.next = self.next.saturating_add(self.group);
+        self.gains = gains;
+        self.kept = self.kept.saturating_add(self.group);
         let before = if self.misfits == 0 {
-            self.next
+            self.kept
         } else {
             self.group
         };
@@ -156,8 +193,15 @@ impl Growth {
     pub fn leave(&mut self) {
         self.misfits = self.misfits.saturating_add(1);
         if self.group == 1 {
-            self.next = self.next.saturating_add(1);
+            self.leave_out();
         }
         self.group = (self.group / 2).max(1);
+    }
+
+    // Leaves the next order out.
+    fn leave_out(&mut self) {
+        if let Some(place) = best_place(&self.gains, &self.decided) {
+            keep(&mut self.decided, place);
+        }
     }
 }

@@ -164,6 +164,44 @@ pub fn gains_of(
     Ok(gains)
 }
 
+// All states of a measure together, each times its weight.
+fn mean_of(measure: &WholeMeasure) -> NearState {
+    let mut entries = [0i128; 9];
+    for point in measure.points.iter() {
+        add_weighted(&mut entries, point);
+    }
+    NearState { entries }
+}
+
+fn add_weighted(entries: &mut [i128; 9], point: &WholePoint) {
+    for (place, entry) in point.state.entries.iter().enumerate() {
+        add_whole(entries, place, entry.saturating_mul(point.weight));
+    }
+}
+
+// How much more a leg pays at a measure's prices than at the mean of its states.
+fn spread_of(leg: &NearLeg, measure: &WholeMeasure, mean: &NearState) -> i128 {
+    let price = price_of(leg, measure).saturating_abs();
+    let certain = payoff(&leg.entries, mean).saturating_mul(leg.count);
+    price.saturating_sub(certain).max(0)
+}
+
+/// How much more the legs of each order pay at a measure's prices than at the mean of its states, in
+/// units of 2^-(40 + time): what stands on how prices spread, which covers bound least well. The
+/// error is want of memory.
+pub fn spreads_of(
+    alloc: Global,
+    book: &Book,
+    measure: &WholeMeasure,
+) -> Result<Vec<i128>, AllocError> {
+    let mean = mean_of(measure);
+    let mut spreads = vec![in alloc; 0i128; book.orders.len()]?;
+    for leg in book.legs.iter() {
+        add_whole(&mut spreads, leg.order, spread_of(leg, measure, &mean));
+    }
+    Ok(spreads)
+}
+
 // The bound of a measure.
 fn bound_of(alloc: Global, book: &Book, measure: &WholeMeasure) -> Result<i128, AllocError> {
     let gains = gains_of(alloc, book, measure)?;

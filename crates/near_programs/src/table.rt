@@ -286,6 +286,37 @@ impl Table {
         }
     }
 
+    /// Bounds a variable otherwise, wherever it stands: the right sides follow where it is complemented.
+    pub fn change_upper(&mut self, variable: usize, bound: f64) {
+        let more = bound - self.upper(variable);
+        if self.is_flipped(variable) {
+            match self.row_of(variable) {
+                Some(row) => self.raise_right(row, more),
+                None => self.raise_all_rights(variable, more),
+            }
+        }
+        self.set_upper(variable, bound);
+    }
+
+    fn raise_right(&mut self, row: usize, more: f64) {
+        let side = self.width;
+        if let Some(numbers) = self.rows.get_mut(row) {
+            add_entry(numbers, side, more);
+        }
+    }
+
+    // Raises the right sides by what a complemented variable, which is not basic, is bounded by more.
+    fn raise_all_rights(&mut self, variable: usize, more: f64) {
+        let Some(column) = self.other.iter().position(|other| *other == variable) else {
+            return;
+        };
+        let side = self.width;
+        for numbers in self.rows.iter_mut() {
+            let number = entry(numbers, column);
+            add_entry(numbers, side, number * more);
+        }
+    }
+
     // Lists the columns that may enter for a row. Answers by how much they can raise its right side
     // together.
     pub(crate) fn list_entrants(
