@@ -1,7 +1,8 @@
 """Measures the service on this machine; docs/PERFORMANCE.md has a part of what it prints.
 
     service/bench [clients] [questions] [again] [verify] [standby] [--messages N] [--runs N]
-                  [--seconds N] [--logs N ..] [--answers N] [--program FILE] [--folder FOLDER]
+                  [--seconds N] [--cpus N ..] [--logs N ..] [--answers N] [--program FILE]
+                  [--folder FOLDER]
 
 Clients place an order and cancel it in turn; each sends its next message when the last is answered.
 
@@ -10,7 +11,8 @@ append to answer, beside the same clients with no sequencer, that append and rea
 (one append), and that append an answer too before they read it (two appends in turn, as an answer
 has to wait for); the median of three runs of each, in turn. questions: the same of 20 clients
 beside two followers (--idle) that nobody asks, or that are asked `price` of 200 orders without a
-pause, in phases of --seconds (3) in turn, --runs (5) of each kind. again: the time until a
+pause, in phases of --seconds (3) in turn, --runs (5) of each kind; the followers run on the
+processors --cpus (any), and Redis does not write its file anew meanwhile. again: the time until a
 sequencer that starts again answers, for --logs of so many messages. verify: how long service/verify
 takes for --answers (300000), --runs times. standby: the longest wait for an answer while one of two
 sequencers is killed. All where none is named.
@@ -20,7 +22,10 @@ from __future__ import annotations
 
 import argparse
 import enum
+import functools
+import gc
 import multiprocessing
+import os
 import pathlib
 import random
 import re
@@ -33,6 +38,7 @@ import sys
 import tempfile
 import threading
 import time
+from collections.abc import Collection
 from multiprocessing.synchronize import Event
 from typing import NamedTuple
 
@@ -141,6 +147,8 @@ class Client:
 
 def trade(clients: list[Client], told: multiprocessing.Queue[list[Sent]]) -> None:
     """Some clients at once, in this process."""
+    # To look for garbage would stop all of them, for the longer the more was sent.
+    gc.disable()
     waiting = selectors.DefaultSelector()
     for client in clients:
         waiting.register(client.socket, selectors.EVENT_READ, client)
@@ -173,10 +181,12 @@ class Trading:
 
 
 class Engine:
-    """A Redis of its own for one measure, and sequencers, each in a session of its own, as
-    service/up starts them."""
+    """A Redis of its own for one measure, with more words where they are given, and sequencers,
+    each in a session of its own, as service/up starts them."""
 
-    def __init__(self, folder: pathlib.Path | None, fsync: str, program: pathlib.Path) -> None:
+    def __init__(
+        self, folder: pathlib.Path | None, fsync: str, program: pathlib.Path, *more: str
+    ) -> None:
         self.held = tempfile.TemporaryDirectory(prefix="ragvismo-bench-", dir=folder)
         self.program = program
         self.sequencers: list[subprocess.Popen[bytes]] = []
@@ -193,6 +203,7 @@ class Engine:
             fsync,
             "--save",
             "",
+            *more,
         ]
         self.redis = redis.Redis(port=self.port)
         self.start_redis()
@@ -217,10 +228,14 @@ class Engine:
         while not self.answers():
             time.sleep(0.005)
 
-    def start(self, tool: str = "sequencer", *more: str) -> subprocess.Popen[bytes]:
+    def start(
+        self, tool: str = "sequencer", *more: str, cpus: Collection[int] = ()
+    ) -> subprocess.Popen[bytes]:
+        """A tool that runs on some processors, on any where none is named."""
         words: list[str | pathlib.Path] = [HERE / tool, "--at", str(self.port)]
         words += ["--program", self.program, *more]
-        self.sequencers.append(subprocess.Popen(words, start_new_session=True))
+        there = functools.partial(os.sched_setaffinity, 0, cpus or os.sched_getaffinity(0))
+        self.sequencers.append(subprocess.Popen(words, preexec_fn=there, start_new_session=True))
         return self.sequencers[-1]
 
     def waiting(self) -> int:
@@ -280,7 +295,8 @@ def traded(given: argparse.Namespace, fsync: str, clients: int, answered: Answer
 
 
 class Asking(threading.Thread):
-    """Asks one question after the other."""
+    """Asks one question after the other; it gives way as followers do, since who asks stands on
+    another machine."""
 
     def __init__(self, asker: Asker) -> None:
         super().__init__(daemon=True)
@@ -288,6 +304,7 @@ class Asking(threading.Thread):
         self.times: list[float] = []
 
     def run(self) -> None:
+        os.sched_setscheduler(0, os.SCHED_IDLE, os.sched_param(0))
         while not self.is_stopped:
             since = time.perf_counter()
             told = self.asker.ask(OPERATOR, PRICED, 600).told()
@@ -329,10 +346,13 @@ def measure_questions(given: argparse.Namespace) -> None:
     percentile of all that was sent in the phases of a kind."""
     sessions, kinds = range(FIRST, FIRST + 20), {"nobody asks": 0, "two followers are asked": 2}
     phases: dict[str, list[Phase]] = {name: [] for name in kinds}
-    with Engine(given.folder, "always", given.program) as engine:
+    # Redis would copy its whole log now and then, which slows all down, and be it in phases of one
+    # kind more than of the other.
+    never = "--auto-aof-rewrite-percentage", "0"
+    with Engine(given.folder, "always", given.program, *never) as engine:
         engine.start()
         for _ in range(2):
-            engine.start("follower", "--idle")
+            engine.start("follower", "--idle", cpus=given.cpus)
         engine.prepare(sessions, 200)
         while engine.waiting() < 2:
             time.sleep(0.1)
@@ -463,6 +483,7 @@ def main() -> None:
     words.add_argument("--messages", type=int, default=20000, metavar="N")
     words.add_argument("--runs", type=int, default=5, metavar="N")
     words.add_argument("--seconds", type=seconds, default=3.0, metavar="N")
+    words.add_argument("--cpus", type=int, nargs="+", default=[], metavar="N")
     words.add_argument("--answers", type=int, default=300_000, metavar="N")
     words.add_argument("--logs", type=int, nargs="*", default=[100_000, 1_000_000], metavar="N")
     words.add_argument("--program", type=runnable, default=str(PROGRAM), metavar="FILE")
