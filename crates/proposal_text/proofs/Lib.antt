@@ -5,12 +5,16 @@ mod TakenCells
 mod SoundCells
 mod ReadCovers
 mod SoundCovers
+mod PlainAsked
+mod WrittenAsked
 pub mod PlainProposals
 pub mod WrittenProposals
+mod SoundAsked
 mod SoundProposals
+mod TakenAsked
 mod TakenProposals
 pub mod ReadExactly
 mod RisingNumbers
 mod Signs
-pub mod TakenNeeds
-pub mod SoundNeeds
+mod TakenNeeds
+mod SoundNeeds

@@ -8,6 +8,7 @@ use Rattle.reply_print.specs.BatchPieces.{natural, fraction, pieces_of, leg_piec
 use Rattle.reply_print.specs.Written.{is_plain}
 use Rattle.reply_print.proofs.Digits.{plain-decimal, plain-signed_decimal}
 use Rattle.reply_print.proofs.PlainPieces.{HasPlainTexts, HavePlainTexts, HasPlainFields, each_plain, side_plain, fraction_plain, leg_plain, order_plain, refused_plain}
+use Rattle.proposal_text.proofs.PlainAsked.{margin_plain, priced_plain, quoted_plain}
 use Rattle.proposal_text.proofs.PlainCovers.{proof_plain}
 use Rattle.proposal_text.specs.declared.submissions.Submission.{Submission}
 use Rattle.proposal_text.specs.declared.replies.StopReason.{StopReason}
@@ -17,14 +18,12 @@ use Rattle.proposal_text.specs.declared.replies.FailureKind.{FailureKind}
 use Rattle.proposal_text.specs.declared.replies.FailureKind.TheVariants as failed
 use Rattle.proposal_text.specs.declared.needs.Need.{Need}
 use Rattle.proposal_text.specs.declared.needs.Need.TheVariants as need
-use Rattle.proposal_text.specs.declared.replies.AccountReply.{AccountReply}
-use Rattle.proposal_text.specs.declared.replies.AccountReply.TheVariants.{Secured, Needs, Uncovered}
 use Rattle.proposal_text.specs.declared.replies.Bar.{Bar}
 use Rattle.proposal_text.specs.declared.replies.Bar.TheVariants.{NotAllowed, NotAsked, OverQuota}
 use Rattle.proposal_text.specs.declared.replies.ProposalReply.{ProposalReply}
-use Rattle.proposal_text.specs.declared.replies.ProposalReply.TheVariants.{Book, Positions, Proposed, Bounded, Stale, Unproved, Closed, Reopened, MarketIsClosed, MarketIsOpen, Account, Tried, Barred}
+use Rattle.proposal_text.specs.declared.replies.ProposalReply.TheVariants.{Book, Positions, Proposed, Bounded, Stale, Unproved, Closed, Reopened, MarketIsClosed, MarketIsOpen, Secured, Needs, Uncovered, Quoted, Priced, Margin, Tried, Barred}
 use Rattle.reply_print.specs.ReplyPieces.{position_piece}
-use Rattle.proposal_text.specs.Pieces.{submission_piece, stop_word, bounded_end, bounded_middle, failed_word, account_piece, tried_mark, bar_number, bar_word, proposal_piece}
+use Rattle.proposal_text.specs.Pieces.{submission_piece, stop_word, bounded_end, bounded_middle, failed_word, tried_mark, bar_number, bar_word, proposal_piece}
 use Rattle.proposal_text.specs.Needs.{need_text}
 
 pub submission_plain : (s : Submission) → HasPlainTexts (submission_piece s)
@@ -72,12 +71,6 @@ need_plain need.Wide = refl
 need_plain need.Budget = refl
 need_plain need.Sum = refl
 
-account_plain : (line : ℕ) (told : AccountReply) → HasPlainTexts (account_piece line told)
-account_plain line (Secured account amount) = (refl, tt, (refl, tt, (refl, plain-decimal amount, (refl, refl, tt))))
-account_plain line (Needs told) =
-    (refl, tt, (refl, plain-signed_decimal told.balance, (refl, tt, (refl, need_plain told.need, (refl, refl, (refl, tt, tt))))))
-account_plain line (Uncovered n) = (refl, tt, (refl, need_plain n, (refl, tt, (refl, refl, (refl, refl, tt)))))
-
 pub mark_plain : (stopped : Option StopReason) → is_plain (tried_mark stopped) ≡ true
 mark_plain (Some run) = stop_plain run
 mark_plain None = refl
@@ -101,7 +94,13 @@ reply_plain line (Closed market orders) = (refl, tt, (refl, tt, (refl, tt, (refl
 reply_plain line (Reopened market) = (refl, tt, (refl, tt, (refl, refl, tt)))
 reply_plain line MarketIsClosed = refused_plain false line 23 0 (codes "Closed") refl
 reply_plain line MarketIsOpen = refused_plain false line 24 0 (codes "Open") refl
-reply_plain line (Account told) = account_plain line told
+reply_plain line (Secured account amount) = (refl, tt, (refl, tt, (refl, plain-decimal amount, (refl, refl, tt))))
+reply_plain line (Needs told) =
+    (refl, tt, (refl, plain-signed_decimal told.balance, (refl, tt, (refl, need_plain told.need, (refl, refl, (refl, tt, tt))))))
+reply_plain line (Uncovered n) = (refl, tt, (refl, need_plain n, (refl, tt, (refl, refl, (refl, refl, tt)))))
+reply_plain line (Quoted market bid ask) = quoted_plain line market bid ask
+reply_plain line (Priced market quantity ask bid) = priced_plain line market quantity ask bid
+reply_plain line (Margin account market margin) = margin_plain line account market margin
 reply_plain line (Tried market trial) =
     (refl, fraction_plain trial.fill, (refl, tt, (refl, mark_plain trial.stopped, (refl, tt, (refl, refl, (refl, fraction_plain trial.surplus, tt))))))
 reply_plain line (Barred bar) = refused_plain false line (bar_number bar) 0 (bar_word bar) (bar_plain bar)

@@ -24,14 +24,14 @@ use Rattle.reply_text.proofs.Sound.{Sound, any, after, mapped, either, where_tru
 use Rattle.reply_text.proofs.SoundCleared.{IsBundleListed, IsClearedWithin, batch_sound, bundle_sound, cleared_batch_sound}
 use Rattle.form.specs.Between.{Between}
 use Rattle.proposal_text.specs.declared.replies.ProposalReply.{ProposalReply}
-use Rattle.proposal_text.specs.declared.replies.ProposalReply.TheVariants.{Book, Positions, Proposed, Stale, Unproved, Closed, Reopened, MarketIsClosed, MarketIsOpen, Account, Barred}
-use Rattle.proposal_text.specs.ReplyValues.{are_bounds, are_in_order, are_surpluses, book_from, do_rise, filled, fill_at, position_of, position_from, positions_from, proposed_from, bounded_of, bounded_with, stop_by_word, outcome_from, bounded_from, closed_from, reopened_from, failed_by_word, secured_with, secured_from, needs_with, needs_from, not_negative, part_at, stopped_by_word, tried_with, tried_from, bar_by, plain_refusal, refused_by, reply_by, rising}
+use Rattle.proposal_text.specs.declared.replies.ProposalReply.TheVariants.{Book, Positions, Proposed, Stale, Unproved, Closed, Reopened, MarketIsClosed, MarketIsOpen, Secured, Uncovered, Barred}
+use Rattle.proposal_text.specs.ReplyValues.{are_bounds, are_in_order, are_surpluses, book_from, do_rise, filled, fill_at, position_of, position_from, positions_from, proposed_from, bounded_of, bounded_with, stop_by_word, outcome_from, bounded_from, closed_from, reopened_from, failed_by_word, secured_from, needs_with, needs_from, not_negative, part_at, stopped_by_word, tried_with, tried_from, bar_by, plain_refusal, refused_by, reply_by, rising}
 use Rattle.proposal_text.specs.CoverReading.{proved_by}
 use Rattle.proposal_text.specs.Submissions.{proposal_from, order_number_from, few_numbers, order_numbers_at, submission_with, submission_from}
 use Rattle.proposal_text.specs.Within.{AreInOrder, AreRising, IsProposalWithin, IsSubmissionWithin, IsPositionWithin, IsBoundedWithin, IsProposalReplyWithin}
 use Rattle.proposal_text.specs.Needs.{IsNeedWithin, need_at, size_at}
-use Rattle.proposal_text.specs.declared.replies.AccountReply.TheVariants.{Uncovered}
 use Rattle.proposal_text.proofs.RisingNumbers.{rise_are}
+use Rattle.proposal_text.proofs.SoundAsked.{margin_sound, priced_sound, quoted_sound}
 use Rattle.proposal_text.proofs.SoundCovers.{proved_sound}
 use Rattle.proposal_text.proofs.SoundNeeds.{need_sound, size_sound}
 use Rattle.reply_print.specs.Look.{number_at, word_at}
@@ -152,7 +152,7 @@ plain_within number =
 
 refused_sound : (number : ℕ) (d : Data) → IsSoundReply (refused_by number d)
 refused_sound number d =
-    either IsProposalReplyWithin (number == 14) _ _ (mapped IsNeedWithin IsProposalReplyWithin (λ need. Account (Uncovered need)) (need_at d) (need_sound d) (λ need n. n))
+    either IsProposalReplyWithin (number == 14) _ _ (mapped IsNeedWithin IsProposalReplyWithin Uncovered (need_at d) (need_sound d) (λ need n. n))
     (either IsProposalReplyWithin (number == 21) (Some (Unproved (failed_by_word (word_at (codes "failed") d)))) (Some (plain_refusal number)) tt (plain_within number))
 
 -- ---- accounts and trials
@@ -160,7 +160,7 @@ refused_sound number d =
 secured_sound : (d : Data) → IsSoundReply (secured_from d)
 secured_sound d =
     after IsAccount IsProposalReplyWithin _ (account_at d) (natural_sound 1 MAX_ACCOUNT (codes "account") d)
-    (λ account a. mapped (λ n. n ≤ limit) IsProposalReplyWithin (secured_with account) (size_at limit (codes "need") d) (size_sound limit (codes "need") d) (λ amount n. (a, omega (arith, n))))
+    (λ account a. mapped (λ n. n ≤ limit) IsProposalReplyWithin (Secured account) (size_at limit (codes "need") d) (size_sound limit (codes "need") d) (λ amount n. (a, omega (arith, n))))
 
 needs_sound : (d : Data) → IsSoundReply (needs_from d)
 needs_sound d =
@@ -193,4 +193,7 @@ reply_sound word d =
     (either IsProposalReplyWithin (bytes_eq word (codes "reopened")) _ _ (reopened_sound d)
     (either IsProposalReplyWithin (bytes_eq word (codes "secured")) _ _ (secured_sound d)
     (either IsProposalReplyWithin (bytes_eq word (codes "need")) _ _ (needs_sound d)
-    (either IsProposalReplyWithin (bytes_eq word (codes "tried")) _ _ (tried_sound d) (refused_sound (number_at (codes "number") d) d)))))))))
+    (either IsProposalReplyWithin (bytes_eq word (codes "quoted")) _ _ (quoted_sound d)
+    (either IsProposalReplyWithin (bytes_eq word (codes "priced")) _ _ (priced_sound d)
+    (either IsProposalReplyWithin (bytes_eq word (codes "margin")) _ _ (margin_sound d)
+    (either IsProposalReplyWithin (bytes_eq word (codes "tried")) _ _ (tried_sound d) (refused_sound (number_at (codes "number") d) d))))))))))))

@@ -25,7 +25,7 @@ use Rattle.reply_print.specs.Look.{items_all, is_whole}
 use Rattle.reply_text.specs.BatchValues.{fraction_from, leg_from, order_from}
 use Rattle.reply_text.specs.ReplyValues.{batch_from, few_orders, cleared_batch_of}
 use Rattle.reply_text.specs.Taking.{items_map, list_at, take_at}
-use Rattle.reply_text.proofs.FiveTests.{IsTaken, paired}
+use Rattle.reply_text.proofs.FiveTests.{paired}
 use Rattle.reply_text.proofs.Taken.{natural_taken, whole_taken, whole_number, fraction_taken, fraction_number, items_pass, items_taken}
 use Rattle.reply_text.proofs.TakenBatches.{IsWrittenOrder, order_is_order, order_taken, leg_taken, leg_is_leg, bundle_made_of, legs_of, side_is, side_taken, len_within}
 use Rattle.reply_text.proofs.TakenCleared.{batch_taken, claim_taken, cleared_batch_taken, fills_are_texts, fills_are_fractions, fills_taken}
@@ -38,22 +38,21 @@ use Rattle.proposal_text.specs.declared.replies.FailureKind.{FailureKind}
 use Rattle.proposal_text.specs.declared.replies.FailureKind.TheVariants as failed
 use Rattle.proposal_text.specs.declared.needs.Need.{Need}
 use Rattle.proposal_text.specs.declared.replies.AccountNeed.{AccountNeed}
-use Rattle.proposal_text.specs.declared.replies.AccountReply.{AccountReply}
-use Rattle.proposal_text.specs.declared.replies.AccountReply.TheVariants.{Secured, Needs, Uncovered}
 use Rattle.proposal_text.specs.declared.replies.Bar.{Bar}
 use Rattle.proposal_text.specs.declared.replies.Bar.TheVariants.{NotAllowed, NotAsked, OverQuota}
 use Rattle.proposal_text.specs.declared.replies.Trial.{Trial}
 use Rattle.proposal_text.specs.declared.replies.ProposalReply.{ProposalReply}
-use Rattle.proposal_text.specs.declared.replies.ProposalReply.TheVariants.{Book, Positions, Proposed, Bounded, Stale, Unproved, Closed, Reopened, MarketIsClosed, MarketIsOpen, Account, Tried, Barred}
+use Rattle.proposal_text.specs.declared.replies.ProposalReply.TheVariants.{Book, Positions, Proposed, Bounded, Stale, Unproved, Closed, Reopened, MarketIsClosed, MarketIsOpen, Secured, Needs, Uncovered, Quoted, Priced, Margin, Tried, Barred}
 use Rattle.reply_print.specs.ReplyPieces.{position_piece}
 use Rattle.proposal_text.specs.Pieces.{submission_piece, stop_word, failed_word, tried_mark, proposal_piece}
 use Rattle.proposal_text.specs.ReplyShapes.{position_shape, position_numbers, is_stop, is_failed, is_tried_mark}
-use Rattle.proposal_text.specs.ReplyValues.{are_in_order, filled, position_of, position_from, rising, stop_by_word, bounded_of, failed_by_word, secured_with, not_negative, stopped_by_word, tried_with, proposal_tests}
+use Rattle.proposal_text.specs.ReplyValues.{are_in_order, filled, position_of, position_from, rising, stop_by_word, bounded_of, failed_by_word, not_negative, stopped_by_word, tried_with}
 use Rattle.proposal_text.specs.CoverReading.{proved_by}
 use Rattle.proposal_text.specs.Submissions.{proposal_from, order_number_from, few_numbers, submission_with, submission_shape, proposal_numbers, submission_from}
 use Rattle.proposal_text.specs.Within.{AreInOrder, AreRising, IsSubmissionWithin, IsPositionWithin, IsProposalLineWithin}
 use Rattle.proposal_text.proofs.ReadCovers.{proof_is, proof_numbered, proof_taken}
 use Rattle.proposal_text.proofs.RisingNumbers.{are_rise}
+use Rattle.proposal_text.proofs.TakenAsked.{IsTakenFrom, margin_taken, priced_taken, quoted_taken}
 use Rattle.proposal_text.proofs.TakenNeeds.{held_taken, is_number, need_is, need_taken}
 
 -- ---- proposals
@@ -172,9 +171,6 @@ failed_taken failed.Wide = refl
 
 -- ---- replies
 
-abbrev IsTakenFrom : ℕ → ProposalReply → Type 0
-IsTakenFrom line reply = IsTaken proposal_tests (piece_data (proposal_piece line reply)) (line, reply)
-
 rising_taken : (d : Data) (batch : Batch) → batch_from d ≡ Some batch → AreRising batch.orders → option_and_then rising (batch_from d) ≡ Some batch
 rising_taken d batch e h = ap (option_and_then rising) e ∙ ap (λ b. if b then Some batch else None) (are_rise batch.orders h)
 
@@ -272,15 +268,15 @@ unproved_taken line f h = record {
 
 -- ---- accounts
 
-secured_taken : (line account amount : ℕ) → IsProposalLineWithin line (Account (Secured account amount)) → IsTakenFrom line (Account (Secured account amount))
+secured_taken : (line account amount : ℕ) → IsProposalLineWithin line (Secured account amount) → IsTakenFrom line (Secured account amount)
 secured_taken line account amount h = record {
   shape = refl;
   numbers = is_number amount h.1.1;
   taken = paired _ _ line _ (line_taken line h.0)
-      (then_taken _ _ account _ (natural_taken 1 MAX_ACCOUNT account h.1.0) (ap (option_map (secured_with account)) (held_taken limit amount (omega (arith, h.1.1)) h.1.1)));
+      (then_taken _ _ account _ (natural_taken 1 MAX_ACCOUNT account h.1.0) (ap (option_map (Secured account)) (held_taken limit amount (omega (arith, h.1.1)) h.1.1)));
 }
 
-needs_taken : (line : ℕ) (told : AccountNeed) → IsProposalLineWithin line (Account (Needs told)) → IsTakenFrom line (Account (Needs told))
+needs_taken : (line : ℕ) (told : AccountNeed) → IsProposalLineWithin line (Needs told) → IsTakenFrom line (Needs told)
 needs_taken line told h = record {
   shape = refl;
   numbers = and_from _ _ (whole_number told.balance h.1.1) (need_is told.need h.1.2);
@@ -290,17 +286,12 @@ needs_taken line told h = record {
       (then_taken _ _ told.need _ (need_taken told.need h.1.2) refl)));
 }
 
-uncovered_taken : (line : ℕ) (n : Need) → IsProposalLineWithin line (Account (Uncovered n)) → IsTakenFrom line (Account (Uncovered n))
+uncovered_taken : (line : ℕ) (n : Need) → IsProposalLineWithin line (Uncovered n) → IsTakenFrom line (Uncovered n)
 uncovered_taken line n h = record {
   shape = refl;
   numbers = need_is n h.1;
-  taken = paired _ _ line _ (line_taken line h.0) (ap (option_map (λ need. Account (Uncovered need))) (need_taken n h.1));
+  taken = paired _ _ line _ (line_taken line h.0) (ap (option_map Uncovered) (need_taken n h.1));
 }
-
-account_taken : (line : ℕ) (told : AccountReply) → IsProposalLineWithin line (Account told) → IsTakenFrom line (Account told)
-account_taken line (Secured account amount) h = secured_taken line account amount h
-account_taken line (Needs told) h = needs_taken line told h
-account_taken line (Uncovered n) h = uncovered_taken line n h
 
 -- ---- trials
 
@@ -346,6 +337,11 @@ reply_taken line (Closed market orders) h = closed_taken line market orders h
 reply_taken line (Reopened market) h = reopened_taken line market h
 reply_taken line MarketIsClosed h = is_closed_taken line h
 reply_taken line MarketIsOpen h = is_open_taken line h
-reply_taken line (Account told) h = account_taken line told h
+reply_taken line (Secured account amount) h = secured_taken line account amount h
+reply_taken line (Needs told) h = needs_taken line told h
+reply_taken line (Uncovered n) h = uncovered_taken line n h
+reply_taken line (Quoted market bid ask) h = quoted_taken line market bid ask h
+reply_taken line (Priced market quantity ask bid) h = priced_taken line market quantity ask bid h
+reply_taken line (Margin account market margin) h = margin_taken line account market h.0 h.1.0 h.1.1 margin h.1.2
 reply_taken line (Tried market trial) h = tried_taken line market trial h
 reply_taken line (Barred bar) h = barred_taken line bar h

@@ -14,16 +14,15 @@ use Rattle.reply_print.proofs.PlainPieces.{side_plain, fraction_plain}
 use Rattle.reply_print.proofs.WrittenReplies.{short, each_written, fills_written, IsLegWithin, legs_within, leg_written, order_written}
 use Rattle.proposal_text.specs.declared.submissions.Submission.{Submission}
 use Rattle.proposal_text.specs.declared.replies.BoundedOutcome.{BoundedOutcome}
-use Rattle.proposal_text.specs.declared.replies.AccountReply.{AccountReply}
-use Rattle.proposal_text.specs.declared.replies.AccountReply.TheVariants.{Secured, Needs, Uncovered}
 use Rattle.proposal_text.specs.declared.replies.Bar.{Bar}
 use Rattle.proposal_text.specs.declared.replies.Bar.TheVariants.{NotAllowed, NotAsked, OverQuota}
 use Rattle.proposal_text.specs.declared.replies.ProposalReply.{ProposalReply}
-use Rattle.proposal_text.specs.declared.replies.ProposalReply.TheVariants.{Book, Positions, Proposed, Bounded, Stale, Unproved, Closed, Reopened, MarketIsClosed, MarketIsOpen, Account, Tried, Barred}
+use Rattle.proposal_text.specs.declared.replies.ProposalReply.TheVariants.{Book, Positions, Proposed, Bounded, Stale, Unproved, Closed, Reopened, MarketIsClosed, MarketIsOpen, Secured, Needs, Uncovered, Quoted, Priced, Margin, Tried, Barred}
 use Rattle.reply_print.specs.ReplyPieces.{position_piece, refused_with}
-use Rattle.proposal_text.specs.Pieces.{submission_piece, bounded_end, bounded_middle, account_piece, bar_number, bar_word, proposal_piece}
-use Rattle.proposal_text.specs.Within.{IsSubmissionWithin, IsPositionWithin, IsBoundedWithin, IsAccountReplyWithin, IsProposalLineWithin}
+use Rattle.proposal_text.specs.Pieces.{submission_piece, bounded_end, bounded_middle, bar_number, bar_word, proposal_piece}
+use Rattle.proposal_text.specs.Within.{IsSubmissionWithin, IsPositionWithin, IsBoundedWithin, IsProposalLineWithin}
 use Rattle.proposal_text.proofs.ReadCovers.{proof_written}
+use Rattle.proposal_text.proofs.WrittenAsked.{margin_written, priced_written, quoted_written}
 use Rattle.proposal_text.proofs.PlainProposals.{stop_plain, failed_plain, need_plain, mark_plain}
 
 pub submission_written : (s : Submission) → IsSubmissionWithin s → IsWritten 6 (submission_piece s)
@@ -105,23 +104,6 @@ middle_written line market batch outcome l m b o = (
   ),
 )
 
-account_written : (line : ℕ) (told : AccountReply) → IsLine line → IsAccountReplyWithin told → IsWritten 6 (account_piece line told)
-account_written line (Secured account amount) l h =
-    (refl, (refl, short account (omega arith), (refl, short line (omega arith), (refl, plain-decimal amount, (refl, refl, tt)))))
-account_written line (Needs told) l h = (
-  refl,
-  (
-    refl,
-    short told.account (omega arith),
-    (
-      refl,
-      plain-signed_decimal told.balance,
-      (refl, short line (omega arith), (refl, need_plain told.need, (refl, refl, (refl, tt, tt)))),
-    ),
-  ),
-)
-account_written line (Uncovered n) l h = (refl, (refl, short line (omega arith), (refl, need_plain n, (refl, refl, (refl, refl, (refl, refl, tt))))))
-
 barred_written : (line : ℕ) (bar : Bar) → IsLine line → IsWritten 6 (refused_with false line (bar_number bar) 0 (bar_word bar))
 barred_written line NotAllowed l = (refl, (refl, short line (omega arith), (refl, refl, (refl, refl, (refl, refl, tt)))))
 barred_written line NotAsked l = (refl, (refl, short line (omega arith), (refl, refl, (refl, refl, (refl, refl, tt)))))
@@ -195,7 +177,24 @@ reply_written line (Closed market orders) h =
 reply_written line (Reopened market) h = (refl, (refl, short line (omega arith), (refl, short market (omega arith), (refl, refl, tt))))
 reply_written line MarketIsClosed h = (refl, (refl, short line (omega arith), (refl, refl, (refl, refl, (refl, refl, tt)))))
 reply_written line MarketIsOpen h = (refl, (refl, short line (omega arith), (refl, refl, (refl, refl, (refl, refl, tt)))))
-reply_written line (Account told) h = account_written line told h.0 h.1
+reply_written line (Secured account amount) h =
+    (refl, (refl, short account (omega arith), (refl, short line (omega arith), (refl, plain-decimal amount, (refl, refl, tt)))))
+reply_written line (Needs told) h = (
+  refl,
+  (
+    refl,
+    short told.account (omega arith),
+    (
+      refl,
+      plain-signed_decimal told.balance,
+      (refl, short line (omega arith), (refl, need_plain told.need, (refl, refl, (refl, tt, tt)))),
+    ),
+  ),
+)
+reply_written line (Uncovered n) h = (refl, (refl, short line (omega arith), (refl, need_plain n, (refl, refl, (refl, refl, (refl, refl, tt))))))
+reply_written line (Quoted market bid ask) h = quoted_written line market h.0 h.1.0 bid ask
+reply_written line (Priced market quantity ask bid) h = priced_written line market h.0 h.1.0 quantity ask bid h.1.1
+reply_written line (Margin account market margin) h = margin_written line account market h.0 h.1.0 h.1.1 margin h.1.2
 reply_written line (Tried market trial) h = (
   refl,
   (

@@ -1,4 +1,6 @@
 pub mod Needs
+pub mod PricePieces
+pub mod MarginPieces
 pub mod Counts
 pub mod CoverPieces
 pub mod CellRanges
@@ -7,6 +9,8 @@ pub mod CoverReading
 pub mod Pieces
 pub mod Within
 pub mod Submissions
+pub mod AskedShapes
 pub mod ReplyShapes
+pub mod AskedValues
 pub mod ReplyValues
 pub mod Laws

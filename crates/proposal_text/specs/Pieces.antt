@@ -1,5 +1,5 @@
 -- What proposals and the replies about them are written as.
-use Rattle.std.specs.Prelude.{ℕ, List, Option, Some, None, false, codes}
+use Rattle.std.specs.Prelude.{ℕ, List, [], ◌∷◌, ◌++◌, Option, Some, None, false, codes}
 use Rattle.form.specs.declared.orders.Batch.{Batch}
 use Rattle.cert_check.specs.declared.outcome.FailedCondition.TheVariants as no
 use Rattle.proposal_check.specs.declared.covers.BoundFailure.{BoundFailure as Reason}
@@ -8,7 +8,7 @@ use Rattle.frac.specs.declared.frac128.Frac128.{Frac128}
 use Rattle.settlement.specs.declared.position.Position.{Position}
 use Rattle.reply_print.specs.BatchPieces.{natural, whole_words, fraction, each, order_piece}
 use Rattle.reply_print.specs.Piece.{Piece, words, truth, object, Fields, no_fields, field, piece_text}
-use Rattle.reply_print.specs.ReplyPieces.{position_piece, refused_with}
+use Rattle.reply_print.specs.ReplyPieces.{position_piece, refused_with, reply_line}
 use Rattle.proposal_text.specs.CoverPieces.{proof_piece}
 use Rattle.proposal_text.specs.declared.needs.Need.{Need}
 use Rattle.proposal_text.specs.declared.needs.Need.TheVariants as need
@@ -19,14 +19,16 @@ use Rattle.proposal_text.specs.declared.replies.BoundedOutcome.{BoundedOutcome}
 use Rattle.proposal_text.specs.declared.replies.FailureKind.{FailureKind}
 use Rattle.proposal_text.specs.declared.replies.FailureKind.TheVariants as failed
 use Rattle.proposal_text.specs.declared.replies.AccountNeed.{AccountNeed}
-use Rattle.proposal_text.specs.declared.replies.AccountReply.{AccountReply}
-use Rattle.proposal_text.specs.declared.replies.AccountReply.TheVariants.{Secured, Needs, Uncovered}
 use Rattle.proposal_text.specs.declared.replies.Bar.{Bar}
 use Rattle.proposal_text.specs.declared.replies.Bar.TheVariants.{NotAllowed, NotAsked, OverQuota}
 use Rattle.proposal_text.specs.declared.replies.Trial.{Trial}
 use Rattle.proposal_text.specs.declared.replies.ProposalReply.{ProposalReply}
-use Rattle.proposal_text.specs.declared.replies.ProposalReply.TheVariants.{Book, Positions, Proposed, Bounded, Stale, Unproved, Closed, Reopened, MarketIsClosed, MarketIsOpen, Account, Tried, Barred}
+use Rattle.proposal_text.specs.declared.replies.ProposalReply.TheVariants.{Book, Positions, Proposed, Bounded, Stale, Unproved, Closed, Reopened, MarketIsClosed, MarketIsOpen, Secured, Needs, Uncovered, Quoted, Priced, Margin, Tried, Barred}
+use Rattle.proposal_text.specs.declared.replies.ServedReply.{ServedReply}
+use Rattle.proposal_text.specs.declared.replies.ServedReply.TheVariants.{Plain, Told}
+use Rattle.proposal_text.specs.MarginPieces.{margin_piece}
 use Rattle.proposal_text.specs.Needs.{need_text}
+use Rattle.proposal_text.specs.PricePieces.{priced_piece, quoted_piece}
 
 -- ---- proposals
 
@@ -164,11 +166,6 @@ uncovered_piece line n =
     (field (codes "reason") (words (codes "Margin"))
     (field (codes "reply") (words (codes "refused")) no_fields)))))
 
-abbrev pub account_piece : ℕ → AccountReply → Piece
-account_piece line (Secured account amount) = secured_piece line account amount
-account_piece line (Needs told) = needs_piece line told
-account_piece line (Uncovered n) = uncovered_piece line n
-
 -- ---- trials
 
 -- the mark of a clear whose run would stop, or would not
@@ -210,10 +207,35 @@ proposal_piece line (Closed market orders) = closed_piece line market orders
 proposal_piece line (Reopened market) = reopened_piece line market
 proposal_piece line MarketIsClosed = refused_with false line 23 0 (codes "Closed")
 proposal_piece line MarketIsOpen = refused_with false line 24 0 (codes "Open")
-proposal_piece line (Account told) = account_piece line told
+proposal_piece line (Secured account amount) = secured_piece line account amount
+proposal_piece line (Needs told) = needs_piece line told
+proposal_piece line (Uncovered n) = uncovered_piece line n
+proposal_piece line (Quoted market bid ask) = quoted_piece line market bid ask
+proposal_piece line (Priced market quantity ask bid) = priced_piece line market quantity ask bid
+proposal_piece line (Margin account market margin) = margin_piece line account market margin
 proposal_piece line (Tried market trial) = tried_piece line market trial
 proposal_piece line (Barred bar) = refused_with false line (bar_number bar) 0 (bar_word bar)
 
 -- the line of a reply, without its line feed
 abbrev pub proposal_line : ℕ → ProposalReply → List ℕ
 proposal_line line reply = piece_text (proposal_piece line reply)
+
+-- the line of what a question is answered, and nothing of another reply
+abbrev pub asked_text : ℕ → ProposalReply → List ℕ
+asked_text line (Book market batch) = piece_text (book_piece line market batch)
+asked_text line (Positions account market positions) = piece_text (positions_piece line account market positions)
+asked_text line (Needs told) = piece_text (needs_piece line told)
+asked_text line (Quoted market bid ask) = piece_text (quoted_piece line market bid ask)
+asked_text line (Priced market quantity ask bid) = piece_text (priced_piece line market quantity ask bid)
+asked_text line (Margin account market margin) = piece_text (margin_piece line account market margin)
+asked_text line (Tried market trial) = piece_text (tried_piece line market trial)
+asked_text line other = []
+
+-- the line of what a line is answered, without its line feed
+abbrev pub served_line : ℕ → ServedReply → List ℕ
+served_line line (Plain reply) = reply_line line reply
+served_line line (Told reply) = proposal_line line reply
+
+-- with its line feed, and what stands after it
+abbrev pub written_reply : {S : Type 0} → ℕ → ServedReply × S → List ℕ × S
+written_reply line result = (served_line line result.0 ++ 10 ∷ [], result.1)

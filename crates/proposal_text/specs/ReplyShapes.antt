@@ -6,6 +6,7 @@ use Rattle.serde_json.specs.Find.{as_bool}
 use Rattle.reply_print.specs.ClearedShape.{are_legs, is_side, order_shape}
 use Rattle.reply_print.specs.Look.{has_members, has_at, is_whole, is_text, is_word, is_list, number_at}
 use Rattle.reply_print.specs.NumberTexts.{is_fraction, is_whole_number}
+use Rattle.proposal_text.specs.AskedShapes.{margin_numbers, margin_shape, priced_shape, prices_numbers, prices_shape}
 use Rattle.proposal_text.specs.Needs.{is_need}
 use Rattle.proposal_text.specs.Submissions.{proposal_shape, proposal_numbers}
 
@@ -133,6 +134,9 @@ shape_by word d =
     else if bytes_eq word (codes "reopened") then reopened_shape d
     else if bytes_eq word (codes "secured") then secured_shape d
     else if bytes_eq word (codes "need") then needs_shape d
+    else if bytes_eq word (codes "quoted") then prices_shape 5 d
+    else if bytes_eq word (codes "priced") then priced_shape d
+    else if bytes_eq word (codes "margin") then margin_shape d
     else if bytes_eq word (codes "tried") then tried_shape d
     else bytes_eq word (codes "refused") && refused_shape (number_at (codes "number") d) d
 
@@ -163,6 +167,9 @@ numbers_by word d =
     else if bytes_eq word (codes "cleared") then has_at (codes "bound") is_fraction d && proposal_numbers d
     else if bytes_eq word (codes "secured") then has_at (codes "need") is_whole_number d
     else if bytes_eq word (codes "need") then needs_numbers d
+    else if bytes_eq word (codes "quoted") then prices_numbers d
+    else if bytes_eq word (codes "priced") then prices_numbers d
+    else if bytes_eq word (codes "margin") then margin_numbers d
     else if bytes_eq word (codes "tried") then tried_numbers d
     else if bytes_eq word (codes "refused") then refused_numbers (number_at (codes "number") d) d
     else true

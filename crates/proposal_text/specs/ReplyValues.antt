@@ -30,11 +30,11 @@ use Rattle.proposal_text.specs.declared.replies.BoundedOutcome.{BoundedOutcome}
 use Rattle.proposal_text.specs.declared.replies.FailureKind.{FailureKind}
 use Rattle.proposal_text.specs.declared.replies.FailureKind.TheVariants as failed
 use Rattle.proposal_text.specs.declared.needs.Need.{Need}
-use Rattle.proposal_text.specs.declared.replies.AccountReply.TheVariants.{Secured, Needs, Uncovered}
 use Rattle.proposal_text.specs.declared.replies.Bar.{Bar}
 use Rattle.proposal_text.specs.declared.replies.Bar.TheVariants.{NotAllowed, NotAsked, OverQuota}
 use Rattle.proposal_text.specs.declared.replies.ProposalReply.{ProposalReply}
-use Rattle.proposal_text.specs.declared.replies.ProposalReply.TheVariants.{Book, Positions, Proposed, Bounded, Stale, Unproved, Closed, Reopened, MarketIsClosed, MarketIsOpen, Account, Tried, Barred}
+use Rattle.proposal_text.specs.declared.replies.ProposalReply.TheVariants.{Book, Positions, Proposed, Bounded, Stale, Unproved, Closed, Reopened, MarketIsClosed, MarketIsOpen, Secured, Needs, Uncovered, Tried, Barred}
+use Rattle.proposal_text.specs.AskedValues.{margin_from, priced_from, quoted_from}
 use Rattle.proposal_text.specs.Needs.{need_at, size_at}
 use Rattle.proposal_text.specs.Pieces.{proposal_line}
 use Rattle.proposal_text.specs.ReplyShapes.{numbers_by, shape_by}
@@ -147,14 +147,11 @@ reopened_from d = option_map Reopened (market_at d)
 
 -- ---- accounts
 
-abbrev pub secured_with : ℕ → ℕ → ProposalReply
-secured_with account amount = Account (Secured account amount)
-
 abbrev pub secured_from : Data → Option ProposalReply
-secured_from d = option_and_then (λ account. option_map (secured_with account) (size_at limit (codes "need") d)) (account_at d)
+secured_from d = option_and_then (λ account. option_map (Secured account) (size_at limit (codes "need") d)) (account_at d)
 
 abbrev pub needs_with : ℕ → ℤ → Need → Bool → ProposalReply
-needs_with account balance need secured = Account (Needs (record { account = account; balance = balance; need = need; secured = secured }))
+needs_with account balance need secured = Needs (record { account = account; balance = balance; need = need; secured = secured })
 
 abbrev pub needs_from : Data → Option ProposalReply
 needs_from d =
@@ -210,7 +207,7 @@ plain_refusal number =
 -- by the number of the refusal
 abbrev pub refused_by : ℕ → Data → Option ProposalReply
 refused_by number d =
-    if number == 14 then option_map (λ need. Account (Uncovered need)) (need_at d)
+    if number == 14 then option_map Uncovered (need_at d)
     else if number == 21 then Some (Unproved (failed_by_word (word_at (codes "failed") d)))
     else Some (plain_refusal number)
 
@@ -229,6 +226,9 @@ reply_by word d =
     else if bytes_eq word (codes "reopened") then reopened_from d
     else if bytes_eq word (codes "secured") then secured_from d
     else if bytes_eq word (codes "need") then needs_from d
+    else if bytes_eq word (codes "quoted") then quoted_from d
+    else if bytes_eq word (codes "priced") then priced_from d
+    else if bytes_eq word (codes "margin") then margin_from d
     else if bytes_eq word (codes "tried") then tried_from d
     else refused_from d
 

@@ -5,7 +5,8 @@ use Rattle.std.specs.List.Sorted.{IsStrictlyIncreasing}
 use Rattle.cert_check.specs.declared.measures.Measure.{Measure}
 use Rattle.exact_num.specs.Fraction.{AtMost, IsNotBelowZero}
 use Rattle.form.specs.declared.legs.Leg.{Leg}
-use Rattle.form.specs.declared.limits.TheConstants.{MAX_BUDGET, MAX_ORDERS}
+use Rattle.form.specs.Between.{Between}
+use Rattle.form.specs.declared.limits.TheConstants.{MAX_BUDGET, MAX_ORDERS, MAX_PRICE, MAX_QUANTITY}
 use Rattle.form.specs.declared.orders.Order.{Order}
 use Rattle.frac.specs.Value.{fraction_of}
 use Rattle.frac.specs.declared.frac128.Frac128.{Frac128}
@@ -16,16 +17,19 @@ use Rattle.proposal_check.specs.declared.covers.Proposal.{Proposal}
 use Rattle.proposal_check.specs.declared.covers.ProposalCover.{ProposalCover}
 use Rattle.proposal_check.specs.declared.covers.ProposalCover.TheVariants.{Checked, Match, Cells}
 use Rattle.settlement.specs.declared.position.Position.{Position}
+use Rattle.reply_print.specs.OutcomePieces.{state_entries}
 use Rattle.reply_print.specs.Within.{IsLine, IsAccount, IsMarket, IsSmall, IsOrderNumber, IsBatchNumber, IsBatchWithin, IsCoverWithin, IsPointWithin}
 use Rattle.proposal_text.specs.CellRanges.{AreCellsWithin}
 use Rattle.proposal_text.specs.Counts.{IsShortCover}
 use Rattle.proposal_text.specs.declared.counts.TheConstants.{MAX_POINTS}
+use Rattle.proposal_text.specs.declared.margins.ToldMargin.{ToldMargin}
+use Rattle.proposal_text.specs.declared.margins.ToldMargin.TheVariants as told
+use Rattle.proposal_text.specs.declared.prices.QuotedPrice.{QuotedPrice}
+use Rattle.proposal_text.specs.declared.prices.QuotedPrice.TheVariants as price
 use Rattle.proposal_text.specs.declared.submissions.Submission.{Submission}
 use Rattle.proposal_text.specs.declared.replies.BoundedOutcome.{BoundedOutcome}
-use Rattle.proposal_text.specs.declared.replies.AccountReply.{AccountReply}
-use Rattle.proposal_text.specs.declared.replies.AccountReply.TheVariants.{Secured, Needs, Uncovered}
 use Rattle.proposal_text.specs.declared.replies.ProposalReply.{ProposalReply}
-use Rattle.proposal_text.specs.declared.replies.ProposalReply.TheVariants.{Book, Positions, Proposed, Bounded, Stale, Unproved, Closed, Reopened, MarketIsClosed, MarketIsOpen, Account, Tried, Barred}
+use Rattle.proposal_text.specs.declared.replies.ProposalReply.TheVariants.{Book, Positions, Proposed, Bounded, Stale, Unproved, Closed, Reopened, MarketIsClosed, MarketIsOpen, Secured, Needs, Uncovered, Quoted, Priced, Margin, Tried, Barred}
 use Rattle.proposal_text.specs.Needs.{IsNeedWithin}
 
 abbrev pub IsProposalCoverWithin : ProposalCover → Type 0
@@ -67,11 +71,18 @@ pub record AreInOrder (surplus best_surplus least_bound bound : Frac128) : Type 
   pub bounded : AtMost (fraction_of best_surplus) (fraction_of least_bound)
   pub least : AtMost (fraction_of least_bound) (fraction_of bound)
 
--- a need of at most 2^127 - 1
-abbrev pub IsAccountReplyWithin : AccountReply → Type 0
-IsAccountReplyWithin (Secured account amount) = IsAccount account × (amount < 2 ^ 127)
-IsAccountReplyWithin (Needs told) = IsAccount told.account × IsSmall told.balance × IsNeedWithin told.need
-IsAccountReplyWithin (Uncovered need) = IsNeedWithin need
+-- a whole price from 0 to 10^12
+abbrev pub IsPriceWithin : QuotedPrice → Type 0
+IsPriceWithin (price.At p) = p ≤ MAX_PRICE
+IsPriceWithin price.Never = ⊤
+IsPriceWithin price.Unmarked = ⊤
+
+-- a state of numbers of 128 bits
+abbrev pub IsMarginWithin : ToldMargin → Type 0
+IsMarginWithin (told.Least liability at) = AllByRecursion IsSmall (state_entries at)
+IsMarginWithin (told.Unbounded ray) = AllByRecursion IsSmall (state_entries ray)
+IsMarginWithin told.Wide = ⊤
+IsMarginWithin told.Budget = ⊤
 
 abbrev pub IsProposalReplyWithin : ProposalReply → Type 0
 IsProposalReplyWithin (Book market batch) = IsMarket market × IsBatchWithin batch × AreRising batch.orders
@@ -84,7 +95,12 @@ IsProposalReplyWithin (Closed market orders) = IsMarket market × (orders ≤ MA
 IsProposalReplyWithin (Reopened market) = IsMarket market
 IsProposalReplyWithin MarketIsClosed = ⊤
 IsProposalReplyWithin MarketIsOpen = ⊤
-IsProposalReplyWithin (Account told) = IsAccountReplyWithin told
+IsProposalReplyWithin (Secured account amount) = IsAccount account × (amount < 2 ^ 127)
+IsProposalReplyWithin (Needs told) = IsAccount told.account × IsSmall told.balance × IsNeedWithin told.need
+IsProposalReplyWithin (Uncovered need) = IsNeedWithin need
+IsProposalReplyWithin (Quoted market bid ask) = IsMarket market × IsPriceWithin bid × IsPriceWithin ask
+IsProposalReplyWithin (Priced market quantity ask bid) = IsMarket market × Between 1 MAX_QUANTITY quantity × IsPriceWithin ask × IsPriceWithin bid
+IsProposalReplyWithin (Margin account market margin) = IsAccount account × IsMarket market × IsMarginWithin margin
 IsProposalReplyWithin (Tried market trial) = IsMarket market × IsNotBelowZero (fraction_of trial.fill) × IsNotBelowZero (fraction_of trial.surplus)
 IsProposalReplyWithin (Barred bar) = ⊤
 

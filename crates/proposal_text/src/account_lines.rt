@@ -1,14 +1,20 @@
 // What is told of accounts and their needs, added to a line.
 ghost use Rattle.std.specs.Prelude.{◌≡◌, ◌++◌, OnOk};
 ghost use Rattle.reply_print.specs.Piece.{piece_text};
-ghost use Rattle.proposal_text.specs.Pieces.{account_piece, needs_piece, secured_piece, uncovered_piece};
+ghost use Rattle.proposal_text.specs.Pieces.{needs_piece, secured_piece, uncovered_piece};
 
 use crate::needs::{Need, add_need};
-use crate::replies::{AccountNeed, AccountReply};
+use crate::replies::AccountNeed;
 use reply_print::printing::{add_field, add_number, add_words, append};
 use std::alloc::AllocError;
 
-fn add_secured(line: &mut Vec<u8>, at: u32, account: u32, need: u128) -> Result<(), AllocError>
+// Adds that an account is secured.
+pub(crate) fn add_secured(
+    line: &mut Vec<u8>,
+    at: u32,
+    account: u32,
+    need: u128,
+) -> Result<(), AllocError>
     ensures { OnOk result (line.new.items
         ≡ line.old.items ++ piece_text (secured_piece at account need)) }
 {
@@ -20,7 +26,8 @@ fn add_secured(line: &mut Vec<u8>, at: u32, account: u32, need: u128) -> Result<
     append(line, "}")
 }
 
-fn add_needs(line: &mut Vec<u8>, at: u32, told: &AccountNeed) -> Result<(), AllocError>
+// Adds what an account has and needs.
+pub(crate) fn add_needs(line: &mut Vec<u8>, at: u32, told: &AccountNeed) -> Result<(), AllocError>
     ensures { OnOk result (line.new.items
         ≡ line.old.items ++ piece_text (needs_piece at told.now)) }
 {
@@ -34,7 +41,8 @@ fn add_needs(line: &mut Vec<u8>, at: u32, told: &AccountNeed) -> Result<(), Allo
     append(line, "}")
 }
 
-fn add_uncovered(line: &mut Vec<u8>, at: u32, need: Need) -> Result<(), AllocError>
+// Adds the refusal for want of what an account needs.
+pub(crate) fn add_uncovered(line: &mut Vec<u8>, at: u32, need: Need) -> Result<(), AllocError>
     ensures { OnOk result (line.new.items
         ≡ line.old.items ++ piece_text (uncovered_piece at need)) }
 {
@@ -45,20 +53,4 @@ fn add_uncovered(line: &mut Vec<u8>, at: u32, need: Need) -> Result<(), AllocErr
     add_words(line, true, "reason", "Margin")?;
     add_words(line, true, "reply", "refused")?;
     append(line, "}")
-}
-
-// Adds what is told of an account.
-pub(crate) fn add_account(
-    line: &mut Vec<u8>,
-    at: u32,
-    reply: &AccountReply,
-) -> Result<(), AllocError>
-    ensures { OnOk result (line.new.items
-        ≡ line.old.items ++ piece_text (account_piece at reply.now)) }
-{
-    match reply {
-        AccountReply::Secured { account, need } => add_secured(line, at, *account, *need),
-        AccountReply::Needs(told) => add_needs(line, at, told),
-        AccountReply::Uncovered { need } => add_uncovered(line, at, *need),
-    }
 }

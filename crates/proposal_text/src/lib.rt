@@ -3,6 +3,8 @@
 #![tactic(auto)]
 
 mod account_lines;
+mod asked_shapes;
+mod asked_values;
 mod bounded_lines;
 pub mod cells;
 mod cells_shape;
@@ -11,7 +13,9 @@ pub mod counts;
 mod cover_reading;
 mod cover_text;
 pub mod laws;
+pub mod margins;
 pub mod needs;
+pub mod prices;
 mod printing;
 pub mod reading;
 pub mod replies;
@@ -20,11 +24,13 @@ mod reply_values;
 pub mod submission_text;
 pub mod submissions;
 
+pub use margins::ToldMargin;
 pub use needs::Need;
-pub use printing::print_proposal_reply;
+pub use prices::QuotedPrice;
+pub use printing::{print_line, print_proposal_reply};
 pub use reading::read_proposal_reply;
 pub use replies::{
-    AccountNeed, AccountReply, Bar, BoundedOutcome, FailureKind, Positions, ProposalReply,
+    AccountNeed, Bar, BoundedOutcome, FailureKind, Positions, ProposalReply, ServedReply,
     StopReason, Trial, failed_as,
 };
 pub use submission_text::{print_submission, read_submission};

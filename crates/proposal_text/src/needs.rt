@@ -68,8 +68,8 @@ pub(crate) fn is_need(value: &Value) -> bool
         || is_whole_text(value)
 }
 
-/// The size of the whole number at a key, where it is not below 0 and at most a bound.
-pub fn size_at(value: &Value, key: &str, bound: u128) -> Option<u128>
+// The size of the whole number at a key, where it is not below 0 and at most a bound.
+pub(crate) fn size_at(value: &Value, key: &str, bound: u128) -> Option<u128>
     requires { bound ≤ limit }
     ensures size { result ≡ size_found bound key.now (view value.now) }
     ensures within { IfSome result (λ size. size ≤ bound) }

@@ -1,12 +1,14 @@
 // The lines of replies, put together from their pieces.
-ghost use Rattle.std.specs.Prelude.{◌≡◌, ◌++◌, IfOk, OnOk, false};
+ghost use Rattle.std.specs.Prelude.{◌≡◌, ◌∷◌, ◌++◌, [], IfOk, OnOk, false};
 ghost use Rattle.reply_print.specs.Piece.{piece_text};
 ghost use Rattle.reply_print.specs.ReplyPieces.{refused_with};
-ghost use Rattle.proposal_text.specs.Pieces.{bar_number, bar_word, book_piece, closed_piece, failed_word, positions_piece, proposal_line, proposal_piece, proposed_piece, reopened_piece, tried_mark, tried_piece, unproved_piece};
+ghost use Rattle.proposal_text.specs.Pieces.{asked_text, bar_number, bar_word, book_piece, closed_piece, failed_word, positions_piece, proposal_line, proposal_piece, proposed_piece, reopened_piece, served_line, tried_mark, tried_piece, unproved_piece};
 
-use crate::account_lines::add_account;
+use crate::account_lines::{add_needs, add_secured, add_uncovered};
 use crate::bounded_lines::{add_bounded, stop};
-use crate::replies::{Bar, FailureKind, ProposalReply, StopReason, Trial};
+use crate::margins::add_margin;
+use crate::prices::{add_priced, add_quoted};
+use crate::replies::{Bar, FailureKind, ProposalReply, ServedReply, StopReason, Trial};
 use form::Batch;
 use frac::Frac128;
 use reply_print::printed_orders::add_orders;
@@ -172,10 +174,9 @@ fn reason(bar: Bar) -> &'static str
     }
 }
 
-// Adds a reply.
-fn add_reply(line: &mut Vec<u8>, at: u32, reply: &ProposalReply) -> Result<(), AllocError>
-    ensures { OnOk result (line.new.items
-        ≡ line.old.items ++ piece_text (proposal_piece at reply.now)) }
+// Adds what a question is answered, and nothing of another reply.
+fn add_asked(line: &mut Vec<u8>, at: u32, reply: &ProposalReply) -> Result<(), AllocError>
+    ensures { OnOk result (line.new.items ≡ line.old.items ++ asked_text at reply.now) }
 {
     match reply {
         ProposalReply::Book { market, batch } => add_book(line, at, *market, batch),
@@ -184,6 +185,30 @@ fn add_reply(line: &mut Vec<u8>, at: u32, reply: &ProposalReply) -> Result<(), A
             market,
             positions,
         } => add_positions(line, at, *account, *market, positions.as_slice()),
+        ProposalReply::Needs(told) => add_needs(line, at, told),
+        ProposalReply::Quoted { market, bid, ask } => add_quoted(line, at, *market, *bid, *ask),
+        ProposalReply::Priced {
+            market,
+            quantity,
+            ask,
+            bid,
+        } => add_priced(line, at, *market, *quantity, *ask, *bid),
+        ProposalReply::Margin {
+            account,
+            market,
+            margin,
+        } => add_margin(line, at, *account, *market, margin),
+        ProposalReply::Tried { market, trial } => add_tried(line, at, *market, trial),
+        _ => Ok(()),
+    }
+}
+
+// Adds a reply.
+fn add_reply(line: &mut Vec<u8>, at: u32, reply: &ProposalReply) -> Result<(), AllocError>
+    ensures { OnOk result (line.new.items
+        ≡ line.old.items ++ piece_text (proposal_piece at reply.now)) }
+{
+    match reply {
         ProposalReply::Proposed {
             market,
             surplus,
@@ -209,9 +234,10 @@ fn add_reply(line: &mut Vec<u8>, at: u32, reply: &ProposalReply) -> Result<(), A
         ProposalReply::Reopened { market } => add_reopened(line, at, *market),
         ProposalReply::MarketIsClosed => add_refused(line, at, 23, "Closed"),
         ProposalReply::MarketIsOpen => add_refused(line, at, 24, "Open"),
-        ProposalReply::Account(told) => add_account(line, at, told),
-        ProposalReply::Tried { market, trial } => add_tried(line, at, *market, trial),
+        ProposalReply::Secured { account, need } => add_secured(line, at, *account, *need),
+        ProposalReply::Uncovered { need } => add_uncovered(line, at, *need),
         ProposalReply::Barred(bar) => add_refused(line, at, number(*bar), reason(*bar)),
+        _ => add_asked(line, at, reply),
     }
 }
 
@@ -225,5 +251,17 @@ pub fn print_proposal_reply(
 {
     let mut text = Vec::new(alloc);
     add_reply(&mut text, line, reply)?;
+    Ok(text)
+}
+
+/// The line of what a line is answered, and a line feed. The only error is want of memory.
+pub fn print_line(alloc: Global, line: u32, reply: &ServedReply) -> Result<Vec<u8>, AllocError>
+    ensures { IfOk result (λ text. text.items ≡ served_line line reply.now ++ 10 ∷ []) }
+{
+    let mut text = match reply {
+        ServedReply::Plain(reply) => reply_print::print(alloc, line, reply)?,
+        ServedReply::Told(reply) => print_proposal_reply(alloc, line, reply)?,
+    };
+    text.push(b'\n')?;
     Ok(text)
 }

@@ -5,6 +5,10 @@ ghost use Rattle.reply_text.specs.Tests.{value_by};
 ghost use Rattle.reply_text.specs.declared.faults.LineFault.TheVariants.{Memory};
 ghost use Rattle.proposal_text.specs.ReplyValues.{IsProposalLineOf, proposal_replies, proposal_tests, reply_reading};
 
+use crate::asked_shapes::{
+    margin_numbers, margin_shape, priced_shape, prices_numbers, prices_shape,
+};
+use crate::asked_values::{margin_from, priced_from, quoted_from};
 use crate::printing::print_proposal_reply;
 use crate::replies::ProposalReply;
 use crate::reply_shapes::{
@@ -38,6 +42,9 @@ impl TestedReply for ProposalReply {
             "reopened" => reopened_shape(value),
             "secured" => secured_shape(value),
             "need" => needs_shape(value),
+            "quoted" => prices_shape(value, 5),
+            "priced" => priced_shape(value),
+            "margin" => margin_shape(value),
             "tried" => tried_shape(value),
             "refused" => refused_shape(value, number_at(value, "number")),
             _ => false,
@@ -51,6 +58,8 @@ impl TestedReply for ProposalReply {
             "cleared" => has_fraction(value, "bound") && proposal_numbers(value),
             "secured" => has_whole_text(value, "need"),
             "need" => needs_numbers(value),
+            "quoted" | "priced" => prices_numbers(value),
+            "margin" => margin_numbers(value),
             "tried" => tried_numbers(value),
             "refused" => refused_numbers(value, number_at(value, "number")),
             _ => true,
@@ -67,6 +76,9 @@ impl TestedReply for ProposalReply {
             "reopened" => Ok(reopened_from(value)),
             "secured" => Ok(secured_from(value)),
             "need" => Ok(needs_from(value)),
+            "quoted" => Ok(quoted_from(value)),
+            "priced" => Ok(priced_from(value)),
+            "margin" => margin_from(alloc, value),
             "tried" => Ok(tried_from(value)),
             _ => Ok(refused_from(value)),
         }

@@ -1,16 +1,20 @@
 //! The replies that `serve` has beside those of a run: to lines of proposals and phases, to a clear
-//! whose outcome was proposed, and of what accounts need and what would be filled.
+//! whose outcome was proposed, and of what accounts need, of prices and margins, and of what would
+//! be filled.
 ghost use Rattle.std.specs.Prelude.{◌≡◌, ◌≢◌};
 ghost use Rattle.cert_check.specs.declared.outcome.FailedCondition.TheVariants as no;
 ghost use Rattle.proposal_check.specs.declared.covers.BoundFailure.TheVariants as unproved;
 ghost use Rattle.proposal_text.specs.Pieces.{failed_as};
 
+use crate::margins::ToldMargin;
 use crate::needs::Need;
+use crate::prices::QuotedPrice;
 use cert_check::FailedCondition;
 use form::Batch;
 use frac::Frac128;
 use lists::List;
 use proposal_check::{BoundFailure, Proposal};
+use reply_print::Reply;
 use settlement::Position;
 
 /// The positions of an account in a market, in the order in which they were added, which contracts
@@ -61,17 +65,6 @@ pub struct AccountNeed {
     pub balance: i128,
     pub need: Need,
     pub secured: bool,
-}
-
-/// What is told of an account and its need.
-#[derive(Clone, Copy, Debug, PartialEq, Eq)]
-pub enum AccountReply {
-    /// The account is secured from here on, and needs so many ticks.
-    Secured { account: u32, need: u128 },
-    /// What the account has and needs.
-    Needs(AccountNeed),
-    /// The line would leave the account less than it needs.
-    Uncovered { need: Need },
 }
 
 /// What a clear would do with one order more at the end of a market's live ones: how much of that
@@ -143,8 +136,37 @@ pub enum ProposalReply {
     MarketIsClosed,
     /// The market is not closed, so that it is not opened again.
     MarketIsOpen,
-    /// What is told of an account and its need.
-    Account(AccountReply),
+    /// The account is secured from here on, and needs so many ticks.
+    Secured {
+        account: u32,
+        need: u128,
+    },
+    /// What the account has and needs.
+    Needs(AccountNeed),
+    /// The line would leave the account less than it needs.
+    Uncovered {
+        need: Need,
+    },
+    /// The prices at which one further buy, and one further sell, of an option would raise the
+    /// greatest surplus of a market.
+    Quoted {
+        market: u32,
+        bid: QuotedPrice,
+        ask: QuotedPrice,
+    },
+    /// The prices at which a further buy, and a further sell, of so many of an option would.
+    Priced {
+        market: u32,
+        quantity: u32,
+        ask: QuotedPrice,
+        bid: QuotedPrice,
+    },
+    /// The margin of an account in a market.
+    Margin {
+        account: u32,
+        market: u32,
+        margin: ToldMargin,
+    },
     /// What a clear of the market would do with one order more.
     Tried {
         market: u32,
@@ -152,6 +174,15 @@ pub enum ProposalReply {
     },
     /// The line is refused to whoever sent it.
     Barred(Bar),
+}
+
+/// What a line is answered: as by a run, or what is told beside one.
+#[derive(Debug, Drop)]
+pub enum ServedReply {
+    /// What a line of a run is answered.
+    Plain(Reply),
+    /// What is told beside a run.
+    Told(ProposalReply),
 }
 
 /// What a proposal fails that is judged no bound, which is never the bound itself.

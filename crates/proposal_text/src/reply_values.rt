@@ -9,8 +9,7 @@ ghost use Rattle.proposal_text.specs.ReplyValues.{are_bounds as bounds_are, are_
 
 use crate::needs::{need_at, size_at};
 use crate::replies::{
-    AccountNeed, AccountReply, Bar, BoundedOutcome, FailureKind, Positions, ProposalReply,
-    StopReason, Trial,
+    AccountNeed, Bar, BoundedOutcome, FailureKind, Positions, ProposalReply, StopReason, Trial,
 };
 use crate::submission_text::proposal_from;
 use exact_num::Exact;
@@ -291,7 +290,7 @@ fn refused_by(value: &Value, number: u64) -> Option<ProposalReply>
 {
     if number == 14 {
         let need = need_at(value)?;
-        return Some(ProposalReply::Account(AccountReply::Uncovered { need }));
+        return Some(ProposalReply::Uncovered { need });
     }
     if number == 21 {
         return Some(ProposalReply::Unproved {
@@ -312,7 +311,7 @@ pub(crate) fn secured_from(value: &Value) -> Option<ProposalReply>
 {
     let account = account_at(value)?;
     let need = size_at(value, "need", LIMIT)?;
-    Some(ProposalReply::Account(AccountReply::Secured { account, need }))
+    Some(ProposalReply::Secured { account, need })
 }
 
 // Whether an account is secured, as it is told.
@@ -329,12 +328,12 @@ pub(crate) fn needs_from(value: &Value) -> Option<ProposalReply>
     let balance = whole_at(value, "balance", LIMIT)?;
     let need = need_at(value)?;
     let secured = secured_at(value)?;
-    Some(ProposalReply::Account(AccountReply::Needs(AccountNeed {
+    Some(ProposalReply::Needs(AccountNeed {
         account,
         balance,
         need,
         secured,
-    })))
+    }))
 }
 
 // The fraction at a key, where it is not below 0.

@@ -19,6 +19,9 @@ returns-in_default c =
       is (codes "reopened") c.in_default.not-reopened,
       is (codes "secured") c.in_default.not-secured,
       is (codes "need") c.in_default.not-need,
+      is (codes "quoted") c.in_default.not-quoted,
+      is (codes "priced") c.in_default.not-priced,
+      is (codes "margin") c.in_default.not-margin,
       is (codes "tried") c.in_default.not-tried,
       is (codes "refused") c.in_default.not-refused,
     ) refl
