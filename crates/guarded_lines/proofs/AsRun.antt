@@ -18,28 +18,29 @@ use Rattle.exchange_core.specs.ExchangeState.{ExchangeState}
 use Rattle.exchange_core.specs.Reply.{refused_with}
 use Rattle.exchange_lines.specs.LineSteps.{IsAsRun}
 use Rattle.exchange_lines.proofs.AsRun.{output_tells}
-use Rattle.guarded_lines.specs.declared.told.ToldMargin.{ToldMargin}
+use Rattle.proposal_text.specs.declared.margins.ToldMargin.{ToldMargin}
 use Rattle.proposal_text.specs.declared.needs.Need.{Need}
-use Rattle.command_text.specs.declared.requests.MarginRequest.{MarginRequest}
 use Rattle.lists.specs.Refusals.{first_of}
-use Rattle.guarded_lines.specs.declared.replies.GuardedReply.TheVariants as reply
+use Rattle.proposal_text.specs.declared.replies.ProposalReply.TheVariants as reply
+use Rattle.proposal_text.specs.declared.replies.ServedReply.TheVariants.{Plain, Told}
+use Rattle.proposal_text.specs.Pieces.{served_line, written_reply}
 use Rattle.guarded_lines.specs.Laws.{GuardedAnswerAsRun, GuardedTellAnswers}
 use Rattle.guarded_lines.specs.Margins.{run_in, margin_refusals, told_of}
-use Rattle.guarded_lines.specs.Output.{IsMarginText, guarded_line, written_reply}
-use Rattle.guarded_lines.specs.Replies.{covered_reply_to, guarded_reply_line, guarded_reply_to, plain_reply_to}
+use Rattle.guarded_lines.specs.Output.{IsMarginText, guarded_line}
+use Rattle.guarded_lines.specs.Replies.{covered_reply_to, guarded_reply_to, plain_reply_to}
 use Rattle.guarded_lines.specs.Withdrawals.{uncovered_by}
 
 -- a line of a run, whose withdrawal may leave a need uncovered
 by_need : (number : ℕ) (state : ExchangeState) (said : Body) (need : Option Need)
-    → IsAsRun IsMarginText number state said (written_reply number (option_map_or (λ need. (reply.Uncovered need, state)) need (plain_reply_to state said)))
+    → IsAsRun IsMarginText number state said (written_reply number (option_map_or (λ need. (Told (reply.Uncovered need), state)) need (plain_reply_to state said)))
 by_need number state said None = inl refl
 by_need number state said (Some need) = inr (inr (inr (need, refl)), refl)
 
 -- a request for a margin
-told_text : (number : ℕ) (request : MarginRequest) (margin : ToldMargin) (refused : Option Refusal)
-    → IsMarginText number (guarded_reply_line number (option_map_or (λ refusal. reply.Plain (refused_with refusal)) refused (reply.Margin request margin)) ++ 10 ∷ [])
-told_text number request margin None = inr (inl (request, margin, refl))
-told_text number request margin (Some refused) = inl (refused, refl)
+told_text : (number account market : ℕ) (margin : ToldMargin) (refused : Option Refusal)
+    → IsMarginText number (served_line number (option_map_or (λ refusal. Plain (refused_with refusal)) refused (Told (reply.Margin account market margin))) ++ 10 ∷ [])
+told_text number account market margin None = inr (inl (account, market, margin, refl))
+told_text number account market margin (Some refused) = inl (refused, refl)
 
 -- what is said, where a run hears a command as it is said, and else anything
 pub said_told : (number : ℕ) (state : ExchangeState) (heard : Body) (said : Result Request Fault) → ((c : Command) → said ≡ Ok (asks.Command c) → heard ≡ body.Command c)
@@ -48,7 +49,7 @@ said_told number state heard (Ok (asks.Command c)) is =
     subst (λ (b : Body). IsAsRun IsMarginText number state b (written_reply number (covered_reply_to state (body.Command c)))) (sym (is c refl))
     (by_need number state (body.Command c) (uncovered_by state (body.Command c)))
 said_told number state heard (Ok (asks.Margin request)) is =
-    inr (told_text number request (told_of (run_in state request.account request.market request.budget)) (first_of (margin_refusals state request)), refl)
+    inr (told_text number request.account request.market (told_of (run_in state request.account request.market request.budget)) (first_of (margin_refusals state request)), refl)
 said_told number state heard (Ok (asks.Quote request)) is = inr (inl (refusal.Syntax, refl), refl)
 said_told number state heard (Ok (asks.Price request)) is = inr (inl (refusal.Syntax, refl), refl)
 said_told number state heard (Ok (asks.Try request)) is = inr (inl (refusal.Syntax, refl), refl)

@@ -32,8 +32,9 @@ use Rattle.portfolio_margin.proofs.LeastMargins.{margins_are_least}
 use Rattle.portfolio_margin.proofs.NeedCovers.{AreDefined, sums_cover}
 use Rattle.portfolio_margin.proofs.Turns.{fills_low}
 use Rattle.reply_print.specs.declared.replies.Reply.TheVariants.{Withdrawn}
-use Rattle.guarded_lines.specs.declared.replies.GuardedReply.{GuardedReply}
-use Rattle.guarded_lines.specs.declared.replies.GuardedReply.TheVariants as reply
+use Rattle.proposal_text.specs.declared.replies.ProposalReply.TheVariants as told
+use Rattle.proposal_text.specs.declared.replies.ServedReply.{ServedReply}
+use Rattle.proposal_text.specs.declared.replies.ServedReply.TheVariants.{Plain, Told}
 use Rattle.guarded_lines.specs.Laws.{WithdrawalsAreCovered}
 use Rattle.guarded_lines.specs.Margins.{are_many, held_by, run_in}
 use Rattle.guarded_lines.specs.Needs.{demand_in, demands_in, liability_in, liability_of, margin_budget, need_as, need_in}
@@ -151,13 +152,13 @@ covered_amount need.Budget left h = absurd (cc)
 covered_amount need.Sum left h = absurd (cc)
 
 -- what its answer says: no run refuses it, and the need is covered
-abbrev Answer : ExchangeState → ℕ → ℕ → Option Refusal → Bool → GuardedReply × ExchangeState
+abbrev Answer : ExchangeState → ℕ → ℕ → Option Refusal → Bool → ServedReply × ExchangeState
 Answer state account amount refused covered =
-    option_map_or (λ n. (reply.Uncovered n, state)) (if is_some refused || covered then None else Some (need_in state account))
-    (let now = option_map_or (refusal_effect state) refused (withdraw_effect state account amount) in (reply.Plain now.0, now.1))
+    option_map_or (λ n. (Told (told.Uncovered n), state)) (if is_some refused || covered then None else Some (need_in state account))
+    (let now = option_map_or (refusal_effect state) refused (withdraw_effect state account amount) in (Plain now.0, now.1))
 
 accepted : (state : ExchangeState) (account amount : ℕ) (balance : ℤ) (refused : Option Refusal) (covered : Bool)
-    → (Answer state account amount refused covered).0 ≡ reply.Plain (Withdrawn account balance)
+    → (Answer state account amount refused covered).0 ≡ Plain (Withdrawn account balance)
     → (covered ≡ true) × ((Answer state account amount refused covered).1 ≡ (withdraw_effect state account amount).1)
 accepted state account amount balance (Some r) covered h = absurd (cc)
 accepted state account amount balance None true h = (refl, refl)

@@ -1,4 +1,3 @@
-pub mod PlainLines
 pub mod AsRun
 pub mod ToldMargins
 pub mod MarginReplies

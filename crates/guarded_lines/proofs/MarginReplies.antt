@@ -5,74 +5,55 @@ use Rattle.cash_ledger.specs.Ledger.{if_open, is_open}
 use Rattle.order_book.specs.declared.market.MarketInfo.{MarketInfo}
 use Rattle.order_book.specs.Book.{info_in}
 use Rattle.lists.specs.Refusals.{first_of}
+use Rattle.lists.proofs.FirstRefusal.{first_behind, first_in_front}
 use Rattle.exchange_core.specs.declared.refusal.Refusal.{Refusal}
-use Rattle.exchange_core.specs.declared.refusal.Refusal.TheVariants.{Settled, NoAccount, TooMany}
+use Rattle.exchange_core.specs.declared.refusal.Refusal.TheVariants.{NoAccount, TooMany}
 use Rattle.exchange_core.specs.ExchangeState.{ExchangeState}
 use Rattle.exchange_core.specs.Reply.{refused_with}
-use Rattle.guarded_lines.specs.declared.told.ToldMargin.{ToldMargin}
+use Rattle.proposal_text.specs.declared.margins.ToldMargin.{ToldMargin}
+use Rattle.proposal_text.specs.declared.replies.ProposalReply.TheVariants.{Margin}
+use Rattle.proposal_text.specs.declared.replies.ServedReply.{ServedReply}
+use Rattle.proposal_text.specs.declared.replies.ServedReply.TheVariants.{Plain, Told}
 use Rattle.command_text.specs.declared.requests.MarginRequest.{MarginRequest}
-use Rattle.guarded_lines.specs.declared.replies.GuardedReply.{GuardedReply}
-use Rattle.guarded_lines.specs.declared.replies.GuardedReply.TheVariants as reply
 use Rattle.guarded_lines.specs.Margins.{are_many, run_in, margin_reply, market_refusals, told_of}
 
--- ---- by the market
-in_front : (info : Option MarketInfo) (later : List (Bool × Refusal)) (refusal : Refusal) → Some refusal ≡ first_of (market_refusals info)
-    → Some refusal ≡ first_of (market_refusals info ++ later)
-in_front None later refusal h = h
-in_front (Some info) later refusal h = by info.settled h
-  where
-    by : (settled : Bool) → Some refusal ≡ (if settled then Some Settled else None)
-        → Some refusal ≡ (if settled then Some Settled else first_of later)
-    by true h = h
-    by false h = absurd (cc)
-
-behind : (info : Option MarketInfo) (later : List (Bool × Refusal)) → None ≡ first_of (market_refusals info) → first_of (market_refusals info ++ later) ≡ first_of later
-behind None later h = absurd (cc)
-behind (Some info) later h = by info.settled h
-  where
-    by : (settled : Bool) → None ≡ (if settled then Some Settled else None)
-        → (if settled then Some Settled else first_of later) ≡ first_of later
-    by true h = absurd (cc)
-    by false h = refl
-
--- ---- the reply
 module _ (state : ExchangeState) (request : MarginRequest) where
   -- by the refusal
-  abbrev replied : Option Refusal → GuardedReply
+  abbrev replied : Option Refusal → ServedReply
   replied refused =
-      option_map_or (λ refusal. reply.Plain (refused_with refusal)) refused
-      (reply.Margin request (told_of (run_in state request.account request.market request.budget)))
+      option_map_or (λ refusal. Plain (refused_with refusal)) refused
+      (Told (Margin request.account request.market (told_of (run_in state request.account request.market request.budget))))
 
   -- by whether the account is open, and whether it has too many positions
   abbrev later : Bool → Bool → List (Bool × Refusal)
   later opened many = (not opened, NoAccount) ∷ (many, TooMany) ∷ []
 
   pub refused_by_market : (info : Option MarketInfo) (refusal : Refusal) → info ≡ info_in state.book request.market → Some refusal ≡ first_of (market_refusals info)
-      → reply.Plain (refused_with refusal) ≡ margin_reply state request
+      → Plain (refused_with refusal) ≡ margin_reply state request
   refused_by_market info refusal is h =
       let rest = later (is_open state.accounts request.account) (are_many state request.account request.market) in
-      ap replied (in_front info rest refusal h) ∙ ap (λ (o : Option MarketInfo). replied (first_of (market_refusals o ++ rest))) is
+      ap replied (sym (first_in_front (market_refusals info) rest refusal (sym h))) ∙ ap (λ (o : Option MarketInfo). replied (first_of (market_refusals o ++ rest))) is
 
   by_account : (info : Option MarketInfo) (opened many : Bool) → info ≡ info_in state.book request.market → None ≡ first_of (market_refusals info)
       → is_open state.accounts request.account ≡ opened → are_many state request.account request.market ≡ many
       → replied (first_of (later opened many)) ≡ margin_reply state request
   by_account info opened many is none open_is many_is =
       (λ i. replied (first_of (later (sym open_is i) (sym many_is i))))
-      ∙ ap replied (sym (behind info (later (is_open state.accounts request.account) (are_many state request.account request.market)) none))
+      ∙ ap replied (sym (first_behind (market_refusals info) (later (is_open state.accounts request.account) (are_many state request.account request.market)) (sym none)))
       ∙ ap (λ (o : Option MarketInfo). replied (first_of (market_refusals o ++ later (is_open state.accounts request.account) (are_many state request.account request.market)))) is
 
   pub refused_closed : (info : Option MarketInfo) → info ≡ info_in state.book request.market → None ≡ first_of (market_refusals info)
-      → is_open state.accounts request.account ≡ false → reply.Plain (refused_with NoAccount) ≡ margin_reply state request
+      → is_open state.accounts request.account ≡ false → Plain (refused_with NoAccount) ≡ margin_reply state request
   refused_closed info is none closed = by_account info false (are_many state request.account request.market) is none closed refl
 
   pub refused_many : (info : Option MarketInfo) → info ≡ info_in state.book request.market → None ≡ first_of (market_refusals info)
-      → is_open state.accounts request.account ≡ true → are_many state request.account request.market ≡ true → reply.Plain (refused_with TooMany) ≡ margin_reply state request
+      → is_open state.accounts request.account ≡ true → are_many state request.account request.market ≡ true → Plain (refused_with TooMany) ≡ margin_reply state request
   refused_many info is none opened many = by_account info true true is none opened many
 
   pub margin_replied : (info : Option MarketInfo) (told : ToldMargin) → info ≡ info_in state.book request.market → None ≡ first_of (market_refusals info)
       → is_open state.accounts request.account ≡ true → are_many state request.account request.market ≡ false
-      → told ≡ told_of (run_in state request.account request.market request.budget) → reply.Margin request told ≡ margin_reply state request
-  margin_replied info told is none opened few same = ap (reply.Margin request) same ∙ by_account info true false is none opened few
+      → told ≡ told_of (run_in state request.account request.market request.budget) → Told (Margin request.account request.market told) ≡ margin_reply state request
+  margin_replied info told is none opened few same = ap (λ (margin : ToldMargin). Told (Margin request.account request.market margin)) same ∙ by_account info true false is none opened few
 
 -- whether an account is open, by what is told of an amount of it
 pub open_where_told : (accounts : List ℕ) (account : ℕ) (amount : ℤ) (told : Option ℤ) → told ≡ if_open accounts account amount → is_open accounts account ≡ is_some told

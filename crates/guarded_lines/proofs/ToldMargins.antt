@@ -8,7 +8,7 @@ use Rattle.frac.proofs.ValueOf.{value-fraction_of}
 use Rattle.settlement.specs.declared.position.Position.{Position}
 use Rattle.simplex_run.specs.Ending.{Ending}
 use Rattle.exchange_core.specs.ExchangeState.{ExchangeState}
-use Rattle.guarded_lines.specs.declared.told.ToldMargin.TheVariants as told
+use Rattle.proposal_text.specs.declared.margins.ToldMargin.TheVariants as told
 use Rattle.proposal_text.specs.declared.needs.Need.TheVariants as need
 use Rattle.portfolio_margin.specs.declared.least_margin.LeastMargin.{LeastMargin}
 use Rattle.portfolio_margin.specs.declared.least_margin.LeastMargin.TheVariants.{Least, Unbounded, Wide, Budget}

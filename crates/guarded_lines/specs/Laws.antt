@@ -9,8 +9,8 @@ use Rattle.exchange_lines.specs.LineSteps.{AnswersAsRun}
 use Rattle.exchange_lines.specs.Promises.{OutputTells}
 use Rattle.command_text.specs.declared.requests.Request.TheVariants as asks
 use Rattle.reply_print.specs.declared.replies.Reply.TheVariants.{Withdrawn}
-use Rattle.guarded_lines.specs.declared.replies.GuardedReply.{GuardedReply}
-use Rattle.guarded_lines.specs.declared.replies.GuardedReply.TheVariants.{Plain}
+use Rattle.proposal_text.specs.declared.replies.ServedReply.{ServedReply}
+use Rattle.proposal_text.specs.declared.replies.ServedReply.TheVariants.{Plain}
 use Rattle.guarded_lines.specs.Output.{IsMarginText, guarded_line}
 use Rattle.guarded_lines.specs.Replies.{guarded_reply_to}
 use Rattle.guarded_lines.specs.Settlements.{after_settling}
@@ -27,7 +27,7 @@ GuardedTellAnswers = OutputTells IsMarginText guarded_line
 
 -- ---- withdrawals
 -- the answer to a withdrawal, and the exchange after it
-abbrev pub answer_to_withdrawal : ExchangeState → ℕ → ℕ → GuardedReply × ExchangeState
+abbrev pub answer_to_withdrawal : ExchangeState → ℕ → ℕ → ServedReply × ExchangeState
 answer_to_withdrawal state account amount = guarded_reply_to state (Ok (asks.Command (Withdraw account amount)))
 
 -- after a withdrawal that is accepted, were all markets in which the account has positions settled

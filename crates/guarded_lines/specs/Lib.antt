@@ -1,4 +1,3 @@
-pub mod Told
 pub mod Margins
 pub mod Needs
 pub mod Withdrawals

@@ -16,15 +16,16 @@ use Rattle.exchange_core.specs.declared.refusal.Refusal.TheVariants.{NoMarket, S
 use Rattle.exchange_core.specs.ExchangeState.{ExchangeState}
 use Rattle.exchange_core.specs.Held.{positions_of, underlyings_in}
 use Rattle.exchange_core.specs.Reply.{refused_with}
-use Rattle.guarded_lines.specs.declared.told.ToldMargin.{ToldMargin}
-use Rattle.guarded_lines.specs.declared.told.ToldMargin.TheVariants as told
+use Rattle.proposal_text.specs.declared.margins.ToldMargin.{ToldMargin}
+use Rattle.proposal_text.specs.declared.margins.ToldMargin.TheVariants as told
+use Rattle.proposal_text.specs.declared.replies.ProposalReply.TheVariants as reply
+use Rattle.proposal_text.specs.declared.replies.ServedReply.{ServedReply}
+use Rattle.proposal_text.specs.declared.replies.ServedReply.TheVariants.{Plain, Told}
 use Rattle.command_text.specs.declared.requests.MarginRequest.{MarginRequest}
 use Rattle.portfolio_margin.specs.declared.least_margin.LeastMargin.{LeastMargin}
 use Rattle.portfolio_margin.specs.declared.least_margin.LeastMargin.TheVariants.{Least, Unbounded, Wide, Budget}
 use Rattle.portfolio_margin.specs.Answers.{IsMarginOf}
 use Rattle.portfolio_margin.specs.Run.{Margin, asked_for, least, endless, margin_run}
-use Rattle.guarded_lines.specs.declared.replies.GuardedReply.{GuardedReply}
-use Rattle.guarded_lines.specs.declared.replies.GuardedReply.TheVariants as reply
 
 -- ---- the run
 -- the positions that an account has in a market
@@ -79,7 +80,7 @@ margin_refusals state request =
     ∷ []
 
 -- the first refusal that a request meets, or the margin
-abbrev pub margin_reply : ExchangeState → MarginRequest → GuardedReply
+abbrev pub margin_reply : ExchangeState → MarginRequest → ServedReply
 margin_reply state request =
-    option_map_or (λ refusal. reply.Plain (refused_with refusal)) (first_of (margin_refusals state request))
-    (reply.Margin request (told_of (run_in state request.account request.market request.budget)))
+    option_map_or (λ refusal. Plain (refused_with refusal)) (first_of (margin_refusals state request))
+    (Told (reply.Margin request.account request.market (told_of (run_in state request.account request.market request.budget))))

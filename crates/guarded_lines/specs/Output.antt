@@ -2,18 +2,13 @@
 use Rattle.std.specs.Prelude.{◌≡◌, ◌⊎◌, ℕ, List, [], ◌∷◌, ◌++◌}
 use Rattle.exchange_core.specs.ExchangeState.{ExchangeState}
 use Rattle.exchange_lines.specs.LineSteps.{IsRefusalText}
-use Rattle.guarded_lines.specs.declared.told.ToldMargin.{ToldMargin}
+use Rattle.proposal_text.specs.declared.margins.ToldMargin.{ToldMargin}
 use Rattle.proposal_text.specs.declared.needs.Need.{Need}
-use Rattle.command_text.specs.declared.requests.MarginRequest.{MarginRequest}
 use Rattle.command_text.specs.Said.{said_in}
 use Rattle.command_text.specs.declared.words.TheConstants.{GUARDED}
-use Rattle.guarded_lines.specs.Told.{margin_line}
-use Rattle.guarded_lines.specs.declared.replies.GuardedReply.{GuardedReply}
-use Rattle.guarded_lines.specs.Replies.{guarded_reply_line, guarded_reply_to, uncovered_line}
-
--- the line of a reply, with its line feed
-abbrev pub written_reply : ℕ → GuardedReply × ExchangeState → List ℕ × ExchangeState
-written_reply number result = (guarded_reply_line number result.0 ++ 10 ∷ [], result.1)
+use Rattle.proposal_text.specs.declared.replies.ProposalReply.TheVariants.{Margin, Uncovered}
+use Rattle.proposal_text.specs.Pieces.{proposal_line, written_reply}
+use Rattle.guarded_lines.specs.Replies.{guarded_reply_to}
 
 -- what is written for a line of these bytes, and the state after it
 abbrev pub guarded_line : ℕ → ExchangeState → List ℕ → List ℕ × ExchangeState
@@ -21,11 +16,11 @@ guarded_line number state line = written_reply number (guarded_reply_to state (s
 
 -- a text is the line of a margin that was asked for, with its line feed
 abbrev pub IsToldText : ℕ → List ℕ → Type 0
-IsToldText number text = (request : MarginRequest) × (margin : ToldMargin) × (text ≡ margin_line number request margin ++ 10 ∷ [])
+IsToldText number text = (account : ℕ) × (market : ℕ) × (margin : ToldMargin) × (text ≡ proposal_line number (Margin account market margin) ++ 10 ∷ [])
 
 -- of a need that is not covered
 abbrev pub IsUncoveredText : ℕ → List ℕ → Type 0
-IsUncoveredText number text = (need : Need) × (text ≡ uncovered_line number need ++ 10 ∷ [])
+IsUncoveredText number text = (need : Need) × (text ≡ proposal_line number (Uncovered need) ++ 10 ∷ [])
 
 -- of one of these, or of a refusal
 abbrev pub IsMarginText : ℕ → List ℕ → Type 0

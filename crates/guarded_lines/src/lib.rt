@@ -7,9 +7,8 @@ pub mod laws;
 mod margins;
 mod needs;
 mod replies;
-mod told;
 mod withdrawals;
 
-pub use answers::{answer, answer_said, tell};
-pub use replies::{GuardedReply, reply_to};
-pub use told::{ToldMargin, print_margin};
+pub use answers::answer;
+pub use margins::margin_reply;
+pub use replies::reply_to;

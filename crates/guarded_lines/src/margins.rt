@@ -7,13 +7,12 @@ ghost use Rattle.settlement.specs.Positions.{IsHeldPosition};
 ghost use Rattle.exchange_core.specs.Held.{positions_of, underlyings_in};
 ghost use Rattle.guarded_lines.specs.Margins.{IsMarginIn, market_refusals, margin_reply, told_by};
 
-use crate::replies::GuardedReply;
-use crate::told::ToldMargin;
 use command_text::MarginRequest;
 use exchange_core::{Exchange, Refusal};
 use form::MAX_ORDERS;
 use order_book::MarketInfo;
 use portfolio_margin::{LeastMargin, margin};
+use proposal_text::{ProposalReply, ServedReply, ToldMargin};
 use settlement::Position;
 use std::alloc::{AllocError, Global};
 
@@ -79,18 +78,18 @@ fn refused_by(info: Option<MarketInfo>) -> Option<Refusal>
 
 /// The margin that is asked for, or the first refusal that the request meets. The only error is
 /// want of memory.
-pub(crate) fn margin_reply(
+pub fn margin_reply(
     alloc: Global,
     exchange: &Exchange,
     request: &MarginRequest,
-) -> Result<GuardedReply, AllocError>
+) -> Result<ServedReply, AllocError>
     ensures { IfOk result (λ reply. reply ≡ margin_reply exchange.now request.now) }
 {
     if let Some(refusal) = refused_by(exchange.info(request.market)) {
-        return Ok(GuardedReply::Plain(refusal.reply()));
+        return Ok(ServedReply::Plain(refusal.reply()));
     }
     if exchange.balance(request.account).is_none() {
-        return Ok(GuardedReply::Plain(Refusal::NoAccount.reply()));
+        return Ok(ServedReply::Plain(Refusal::NoAccount.reply()));
     }
     match margin_in(
         alloc,
@@ -99,10 +98,11 @@ pub(crate) fn margin_reply(
         request.market,
         request.budget,
     )? {
-        Some(counted) => Ok(GuardedReply::Margin {
-            request: *request,
+        Some(counted) => Ok(ServedReply::Told(ProposalReply::Margin {
+            account: request.account,
+            market: request.market,
             margin: told_margin(&counted.0),
-        }),
-        None => Ok(GuardedReply::Plain(Refusal::TooMany.reply())),
+        })),
+        None => Ok(ServedReply::Plain(Refusal::TooMany.reply())),
     }
 }

@@ -24,20 +24,21 @@ use Rattle.exchange_lines.proofs.AsRun.{output_tells}
 use Rattle.option_quotes.specs.declared.prices.MarketPrices.{MarketPrices}
 use Rattle.option_quotes.specs.declared.prices.MarketPrices.TheVariants as prices
 use Rattle.option_quotes.specs.Implied.{prices_of}
-use Rattle.quote_lines.specs.declared.prices.QuotedPrice.TheVariants as price
-use Rattle.quote_lines.specs.declared.replies.QuotesReply.TheVariants as told
+use Rattle.proposal_text.specs.declared.prices.QuotedPrice.TheVariants as price
+use Rattle.proposal_text.specs.declared.replies.ServedReply.TheVariants.{Plain, Told}
+use Rattle.proposal_text.specs.Pieces.{proposal_line, served_line, written_reply}
 use Rattle.quote_lines.specs.Laws.{QuotesAnswerAsRun, QuotesTellAnswers}
-use Rattle.quote_lines.specs.Output.{IsPricedText, IsPriceText, IsQuoteText, quotes_line, written_reply}
+use Rattle.quote_lines.specs.Output.{IsPricedText, IsPriceText, IsQuoteText, quotes_line}
 use Rattle.lists.specs.Refusals.{first_of}
 use Rattle.quote_lines.specs.Refusals.{quote_refusals}
-use Rattle.quote_lines.specs.Replies.{prices_told, quoted_price, quotes_reply_line, quotes_reply_to, side_told, told_for}
+use Rattle.quote_lines.specs.Replies.{prices_told, quoted_price, quotes_reply_to, side_told, told_for}
 use Rattle.command_text.proofs.SaidByWords.{asked_by_word, command_to_run}
 
 -- a refusal, or what is told
 told_of : (P : ℕ → List ℕ → Type 0) (number : ℕ) (state : ExchangeState) (said : Body) (request : QuoteRequest) (quantity : Option ℕ) (refused : Option Refusal)
-    → ((refusal : Refusal) → P number (quotes_reply_line number (told.Plain (refused_with refusal)) ++ 10 ∷ []))
-    → P number (quotes_reply_line number (told_for (batch_in state request.market) request quantity) ++ 10 ∷ [])
-    → IsAsRun P number state said (written_reply number (option_map_or (λ refusal. told.Plain (refused_with refusal)) refused (told_for (batch_in state request.market) request quantity), state))
+    → ((refusal : Refusal) → P number (served_line number (Plain (refused_with refusal)) ++ 10 ∷ []))
+    → P number (proposal_line number (told_for (batch_in state request.market) request quantity) ++ 10 ∷ [])
+    → IsAsRun P number state said (written_reply number (option_map_or (λ refusal. Plain (refused_with refusal)) refused (Told (told_for (batch_in state request.market) request quantity)), state))
 told_of P number state said request quantity (Some refusal) refuses tells = inr (refuses refusal, refl)
 told_of P number state said request quantity None refuses tells = inr (tells, refl)
 
@@ -48,7 +49,7 @@ quote_told number state said request =
     (inr (request.market, quoted_price batch request Buy, quoted_price batch request Sell, refl))
 
 -- the prices of so many are written as such
-prices_text : (number market quantity : ℕ) (prices : MarketPrices) → IsPricedText number (quotes_reply_line number (prices_told market quantity prices) ++ 10 ∷ [])
+prices_text : (number market quantity : ℕ) (prices : MarketPrices) → IsPricedText number (proposal_line number (prices_told market quantity prices) ++ 10 ∷ [])
 prices_text number market quantity (prices.Marked base ask bid) = (market, quantity, side_told ask, side_told bid, refl)
 prices_text number market quantity (prices.Unmarked base) = (market, quantity, price.Unmarked, price.Unmarked, refl)
 

@@ -1,4 +1,3 @@
-pub mod QuotedPlain
 pub mod AsRun
 pub mod MayQuote
 pub mod Thresholds

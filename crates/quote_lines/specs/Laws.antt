@@ -14,16 +14,17 @@ use Rattle.exchange_core.specs.Kept.{IsKept}
 use Rattle.exchange_core.specs.Step.{batch_in}
 use Rattle.exchange_lines.specs.LineSteps.{AnswersAsRun}
 use Rattle.exchange_lines.specs.Promises.{OutputTells}
-use Rattle.quote_lines.specs.declared.prices.QuotedPrice.{QuotedPrice}
-use Rattle.quote_lines.specs.declared.prices.QuotedPrice.TheVariants.{At, Never, Unmarked}
+use Rattle.proposal_text.specs.declared.prices.QuotedPrice.{QuotedPrice}
+use Rattle.proposal_text.specs.declared.prices.QuotedPrice.TheVariants.{At, Never, Unmarked}
 use Rattle.command_text.specs.Within.{IsPriceWithin, IsQuoteWithin, IsTryWithin}
 use Rattle.command_text.specs.declared.requests.PriceRequest.{PriceRequest}
 use Rattle.command_text.specs.declared.requests.QuoteRequest.{QuoteRequest}
 use Rattle.command_text.specs.declared.requests.Request.TheVariants as asks
 use Rattle.command_text.specs.declared.requests.TryRequest.{TryRequest}
-use Rattle.quote_lines.specs.Quoted.{priced_line, quoted_line}
+use Rattle.proposal_text.specs.declared.replies.ProposalReply.TheVariants.{Quoted, Priced}
+use Rattle.proposal_text.specs.Pieces.{proposal_line, written_reply}
 use Rattle.lists.specs.Refusals.{first_of}
-use Rattle.quote_lines.specs.Output.{IsQuoteText, quotes_line, written_reply}
+use Rattle.quote_lines.specs.Output.{IsQuoteText, quotes_line}
 use Rattle.quote_lines.specs.Refusals.{quote_refusals}
 use Rattle.quote_lines.specs.Replies.{quotes_reply_to, tried_for}
 
@@ -55,7 +56,7 @@ TellsOf state request side price = TellsPrice (batch_in state request.market) (f
 -- sell, and the exchange is as it was
 abbrev pub TellsQuote : ℕ → ExchangeState → QuoteRequest → List ℕ × ExchangeState → Type 0
 TellsQuote number state request written =
-    (bid : QuotedPrice) × (ask : QuotedPrice) × (written ≡ (quoted_line number request.market bid ask ++ 10 ∷ [], state))
+    (bid : QuotedPrice) × (ask : QuotedPrice) × (written ≡ (proposal_line number (Quoted request.market bid ask) ++ 10 ∷ [], state))
     × TellsOf state request Buy bid × TellsOf state request Sell ask
 
 -- so it is for a line that asks for a quote, whatever words may begin it, and meets no refusal
@@ -80,7 +81,7 @@ TellsImpliedOf state request side price =
 -- sell, and the exchange is as it was
 abbrev pub TellsPrices : ℕ → ExchangeState → PriceRequest → List ℕ × ExchangeState → Type 0
 TellsPrices number state request written =
-    (ask : QuotedPrice) × (bid : QuotedPrice) × (written ≡ (priced_line number request.quote.market request.quantity ask bid ++ 10 ∷ [], state))
+    (ask : QuotedPrice) × (bid : QuotedPrice) × (written ≡ (proposal_line number (Priced request.quote.market request.quantity ask bid) ++ 10 ∷ [], state))
     × TellsImpliedOf state request Buy ask × TellsImpliedOf state request Sell bid
 
 -- so it is for a line that asks for prices and meets no refusal

@@ -1,4 +1,3 @@
-pub mod Quoted
 pub mod Refusals
 pub mod Replies
 pub mod Output

@@ -1,5 +1,5 @@
 -- The reply to a line that may ask for something, and the exchange after it.
-use Rattle.std.specs.Prelude.{ℕ, List, Option, Some, None, Result, Ok, Err}
+use Rattle.std.specs.Prelude.{ℕ, Option, Some, None, Result, Ok, Err}
 use Rattle.std.specs.Option.{option_map_or}
 use Rattle.form.specs.declared.orders.Batch.{Batch}
 use Rattle.form.specs.declared.orders.Side.{Side}
@@ -26,13 +26,13 @@ use Rattle.command_text.specs.declared.requests.QuoteRequest.{QuoteRequest}
 use Rattle.command_text.specs.declared.requests.Request.{Request}
 use Rattle.command_text.specs.declared.requests.Request.TheVariants as asks
 use Rattle.command_text.specs.declared.requests.TryRequest.{TryRequest}
-use Rattle.quote_lines.specs.declared.prices.QuotedPrice.{QuotedPrice}
-use Rattle.quote_lines.specs.declared.prices.QuotedPrice.TheVariants as told
-use Rattle.quote_lines.specs.Quoted.{priced_line, quoted_line}
+use Rattle.proposal_text.specs.declared.prices.QuotedPrice.{QuotedPrice}
+use Rattle.proposal_text.specs.declared.prices.QuotedPrice.TheVariants as told
+use Rattle.proposal_text.specs.declared.replies.ProposalReply.{ProposalReply}
+use Rattle.proposal_text.specs.declared.replies.ProposalReply.TheVariants.{Quoted as ToldQuote, Priced}
+use Rattle.proposal_text.specs.declared.replies.ServedReply.{ServedReply}
+use Rattle.proposal_text.specs.declared.replies.ServedReply.TheVariants.{Plain, Told}
 use Rattle.lists.specs.Refusals.{first_of}
-use Rattle.reply_print.specs.ReplyPieces.{reply_line}
-use Rattle.quote_lines.specs.declared.replies.QuotesReply.{QuotesReply}
-use Rattle.quote_lines.specs.declared.replies.QuotesReply.TheVariants.{Plain, Quoted as ToldQuote, Priced}
 use Rattle.quote_lines.specs.Refusals.{quote_refusals}
 
 -- the price that a quote tells
@@ -45,7 +45,7 @@ price_of (quoted.Unmarked probe outcome) = told.Unmarked
 abbrev pub quoted_price : Batch → QuoteRequest → Side → QuotedPrice
 quoted_price batch request side = price_of (quoted_of batch (further request.form side) request.budget)
 
-abbrev pub quoted_for : Batch → QuoteRequest → QuotesReply
+abbrev pub quoted_for : Batch → QuoteRequest → ProposalReply
 quoted_for batch request = ToldQuote request.market (quoted_price batch request Buy) (quoted_price batch request Sell)
 
 -- the price that a side's probes tell
@@ -55,24 +55,24 @@ side_told (side.Never extreme) = told.Never
 side_told (side.Unmarked price outcome) = told.Unmarked
 side_told side.Spent = told.Unmarked
 
-abbrev pub prices_told : ℕ → ℕ → MarketPrices → QuotesReply
+abbrev pub prices_told : ℕ → ℕ → MarketPrices → ProposalReply
 prices_told number quantity (market.Marked base ask bid) = Priced number quantity (side_told ask) (side_told bid)
 prices_told number quantity (market.Unmarked base) = Priced number quantity told.Unmarked told.Unmarked
 
 -- the prices at which a further order for so many raises the greatest surplus of a batch
-abbrev pub priced_for : Batch → QuoteRequest → ℕ → QuotesReply
+abbrev pub priced_for : Batch → QuoteRequest → ℕ → ProposalReply
 priced_for batch request quantity = prices_told request.market quantity (prices_of batch request.form quantity request.budget)
 
 -- what is told of a batch: a quote, or the prices of so many
-abbrev pub told_for : Batch → QuoteRequest → Option ℕ → QuotesReply
+abbrev pub told_for : Batch → QuoteRequest → Option ℕ → ProposalReply
 told_for batch request None = quoted_for batch request
 told_for batch request (Some quantity) = priced_for batch request quantity
 
 -- the first refusal that a request meets, or what is told of the live orders of its market
-abbrev pub asked_reply : ExchangeState → QuoteRequest → Option ℕ → QuotesReply
+abbrev pub asked_reply : ExchangeState → QuoteRequest → Option ℕ → ServedReply
 asked_reply state request quantity =
     option_map_or (λ refusal. Plain (refused_with refusal)) (first_of (quote_refusals state.book request))
-    (told_for (batch_in state request.market) request quantity)
+    (Told (told_for (batch_in state request.market) request quantity))
 
 -- ---- a further order
 -- the live orders of the market of a request, or the first refusal that it meets
@@ -91,13 +91,7 @@ tried_reply state request =
 
 -- ---- a line
 -- the reply to what a line says, and the exchange after it: a request changes nothing
-abbrev pub quotes_reply_to : ExchangeState → Result Request Fault → QuotesReply × ExchangeState
+abbrev pub quotes_reply_to : ExchangeState → Result Request Fault → ServedReply × ExchangeState
 quotes_reply_to state (Ok (asks.Quote request)) = (asked_reply state request None, state)
 quotes_reply_to state (Ok (asks.Price request)) = (asked_reply state request.quote (Some request.quantity), state)
 quotes_reply_to state said = let now = reply_to state (body_of_said said) in (Plain now.0, now.1)
-
--- the line of a reply, without its line feed
-abbrev pub quotes_reply_line : ℕ → QuotesReply → List ℕ
-quotes_reply_line number (Plain reply) = reply_line number reply
-quotes_reply_line number (ToldQuote market bid ask) = quoted_line number market bid ask
-quotes_reply_line number (Priced market quantity ask bid) = priced_line number market quantity ask bid

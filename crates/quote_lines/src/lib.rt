@@ -4,12 +4,11 @@
 
 mod answers;
 pub mod laws;
-mod prices;
 mod quoting;
 mod replies;
 mod trying;
 
-pub use answers::{answer, tell};
-pub use prices::{QuotedPrice, print_priced, print_quoted};
-pub use replies::{QuotesReply, reply_to};
+pub use answers::answer;
+pub use quoting::asked_reply;
+pub use replies::reply_to;
 pub use trying::tried_reply;

@@ -9,13 +9,12 @@ ghost use Rattle.command_text.specs.Within.{IsQuoteWithin};
 ghost use Rattle.quote_lines.specs.Replies.{asked_batch, asked_reply, price_of, priced_for, prices_told, quoted_for, quoted_price, side_told, told_for};
 ghost use Rattle.quote_lines.specs.Refusals.{info_refusals};
 
-use crate::prices::QuotedPrice;
-use crate::replies::QuotesReply;
 use command_text::QuoteRequest;
 use exchange_core::{Exchange, Refusal};
 use form::{Batch, MAX_ORDERS, Side};
 use option_quotes::{MarketPrices, Quoted, SidePrice, implied_prices, quote};
 use order_book::{BookRefusal, MarketInfo};
+use proposal_text::{ProposalReply, QuotedPrice, ServedReply};
 use std::alloc::{AllocError, Global};
 
 // The price that a quote tells.
@@ -49,12 +48,12 @@ fn quoted_for(
     alloc: Global,
     batch: &Batch,
     request: &QuoteRequest,
-) -> Result<QuotesReply, AllocError>
+) -> Result<ProposalReply, AllocError>
     requires request { IsQuoteWithin request.now }
     requires batch { MayBeQuoted batch.now request.now.form }
     ensures { IfOk result (λ reply. reply ≡ quoted_for batch.now request.now) }
 {
-    Ok(QuotesReply::Quoted {
+    Ok(ProposalReply::Quoted {
         market: request.market,
         bid: quoted_price(alloc, batch, request, Side::Buy)?,
         ask: quoted_price(alloc, batch, request, Side::Sell)?,
@@ -73,14 +72,14 @@ fn side_told(price: &SidePrice) -> QuotedPrice
 }
 
 // The reply of prices.
-fn prices_told(market: u32, quantity: u32, prices: &MarketPrices) -> QuotesReply
+fn prices_told(market: u32, quantity: u32, prices: &MarketPrices) -> ProposalReply
     ensures { result ≡ prices_told market quantity prices.now }
 {
     let (ask, bid) = match prices {
         MarketPrices::Marked { ask, bid, .. } => (side_told(ask), side_told(bid)),
         MarketPrices::Unmarked { .. } => (QuotedPrice::Unmarked, QuotedPrice::Unmarked),
     };
-    QuotesReply::Priced {
+    ProposalReply::Priced {
         market,
         quantity,
         ask,
@@ -94,7 +93,7 @@ fn priced_for(
     batch: &Batch,
     request: &QuoteRequest,
     quantity: u32,
-) -> Result<QuotesReply, AllocError>
+) -> Result<ProposalReply, AllocError>
     requires request { IsQuoteWithin request.now }
     requires quantity { (1 ≤ quantity) × (quantity ≤ MAX_QUANTITY) }
     requires batch { MayBeQuoted batch.now request.now.form }
@@ -110,7 +109,7 @@ fn told_for(
     batch: &Batch,
     request: &QuoteRequest,
     quantity: Option<u32>,
-) -> Result<QuotesReply, AllocError>
+) -> Result<ProposalReply, AllocError>
     requires request { IsQuoteWithin request.now }
     requires quantity { IfSome quantity (λ q. (1 ≤ q) × (q ≤ MAX_QUANTITY)) }
     requires batch { MayBeQuoted batch.now request.now.form }
@@ -178,19 +177,20 @@ pub(crate) fn asked_batch(
     }
 }
 
-/// What is told, a quote or the prices of so many, or the first refusal that the request meets.
-pub(crate) fn asked_reply(
+/// What is told, a quote or the prices of so many, or the first refusal that the request meets. The
+/// only error is want of memory.
+pub fn asked_reply(
     alloc: Global,
     exchange: &Exchange,
     request: &QuoteRequest,
     quantity: Option<u32>,
-) -> Result<QuotesReply, AllocError>
+) -> Result<ServedReply, AllocError>
     requires request { IsQuoteWithin request.now }
     requires quantity { IfSome quantity (λ q. (1 ≤ q) × (q ≤ MAX_QUANTITY)) }
     ensures { IfOk result (λ reply. reply ≡ asked_reply exchange.now request.now quantity) }
 {
     match asked_batch(exchange, request)? {
-        Ok(batch) => told_for(alloc, &batch, request, quantity),
-        Err(refusal) => Ok(QuotesReply::Plain(refusal.reply())),
+        Ok(batch) => Ok(ServedReply::Told(told_for(alloc, &batch, request, quantity)?)),
+        Err(refusal) => Ok(ServedReply::Plain(refusal.reply())),
     }
 }
