@@ -26,21 +26,17 @@ use Rattle.reply_text.proofs.FiveTests.{json_of-piece}
 use Rattle.reply_text.proofs.RoundTrip.{reading-reply_line}
 use Rattle.reply_text.proofs.Taken.{natural_taken}
 use Rattle.reply_text.proofs.TakenReplies.{then_taken}
-use Rattle.proposal_text.specs.declared.replies.AccountReply.TheVariants.{Secured, Needs, Uncovered}
+use Rattle.proposal_text.specs.declared.margins.ToldMargin.TheVariants as margin
 use Rattle.proposal_text.specs.declared.replies.Bar.TheVariants.{NotAllowed, NotAsked, OverQuota}
 use Rattle.proposal_text.specs.declared.replies.ProposalReply.{ProposalReply}
-use Rattle.proposal_text.specs.declared.replies.ProposalReply.TheVariants.{Book, Positions, Proposed, Bounded as BoundedReply, Stale, Unproved, Closed, Reopened, MarketIsClosed, MarketIsOpen, Account, Tried, Barred}
+use Rattle.proposal_text.specs.declared.replies.ProposalReply.TheVariants.{Book, Positions, Proposed, Bounded as BoundedReply, Stale, Unproved, Closed, Reopened, MarketIsClosed, MarketIsOpen, Secured, Needs, Uncovered, Quoted, Priced, Margin, Tried, Barred}
+use Rattle.proposal_text.specs.declared.replies.ServedReply.{ServedReply}
+use Rattle.proposal_text.specs.declared.replies.ServedReply.TheVariants as answered
 use Rattle.proposal_text.specs.Pieces.{proposal_piece}
 use Rattle.proposal_text.specs.ReplyValues.{proposal_tests}
 use Rattle.proposal_text.proofs.PlainProposals.{reply_plain as proposal_plain}
 use Rattle.proposal_text.proofs.ReadExactly.{reply_reads}
 use Rattle.proposal_text.proofs.WrittenProposals.{reply_written as proposal_written}
-use Rattle.guarded_lines.specs.declared.told.ToldMargin.TheVariants as told
-use Rattle.journal_audit.specs.declared.asked_replies.AskedReply.{AskedReply}
-use Rattle.journal_audit.specs.declared.asked_replies.AskedReply.TheVariants.{Quoted, Priced, Margin}
-use Rattle.journal_audit.specs.AskedLines.{asked_piece}
-use Rattle.journal_audit.specs.AskedValues.{asked_tests}
-use Rattle.journal_audit.proofs.AskedExactly.{asked_plain, asked_reads, asked_written}
 use Rattle.journal_check.specs.declared.findings.Finding.{Finding}
 use Rattle.journal_check.specs.declared.findings.Finding.TheVariants.{Plain, Cleared, Bounded, Faulty}
 use Rattle.journal_check.specs.Findings.{bounded_finding, cleared_finding, fault_in, reply_finding}
@@ -48,9 +44,9 @@ use Rattle.journal_check.specs.Laws.{IfCleared, IsCertified, IsSoundLineOf}
 use Rattle.journal_audit.specs.declared.gate_lines.GateLine.{GateLine}
 use Rattle.journal_audit.specs.declared.gate_lines.GateLine.TheVariants.{Malformed, Sessions, Expecting}
 use Rattle.journal_audit.specs.Accepted.{accepted_line, before_end, between, if_braced, is_accepted, is_braced, is_object, is_questioned, message_from, question_in, question_line, question_tail, reply_in, tail_text}
-use Rattle.journal_audit.specs.Findings.{accepted_finding, audit_finding, beside, line_finding, plain_found, proposal_finding, proposal_found, questioned_finding, reply_found, served_finding, session_beside, tells_asked, tells_proposal, told_finding, unspelled, value_finding}
+use Rattle.journal_audit.specs.Findings.{accepted_finding, audit_finding, beside, line_finding, plain_found, proposal_finding, proposal_found, questioned_finding, reply_found, served_finding, session_beside, tells_proposal, told_finding, unspelled, value_finding}
 use Rattle.journal_audit.specs.GateLines.{IsGateLineOf, IsSessionNumber, gate_piece, gate_tests}
-use Rattle.journal_audit.specs.Laws.{AuditedReply, IfBounded, IsAcceptedLineOf, IsAuditedLine, IsAuditedLineOf, IsProposedLineOf, IsQuestionLineOf, IsServedLineOf, IsToldLineOf, OfAsked, OfGate, OfProposals, OfQuestion, OfRun, OfServe, ServedReply, SoundLinesAreFoundSo}
+use Rattle.journal_audit.specs.Laws.{AuditedReply, IfBounded, IsAcceptedLineOf, IsAuditedLine, IsAuditedLineOf, IsProposedLineOf, IsQuestionLineOf, IsServedLineOf, OfGate, OfQuestion, OfServe, SoundLinesAreFoundSo}
 use Rattle.journal_audit.proofs.AuditSays.{IsHeard, line_heard}
 use Rattle.journal_audit.proofs.GateTaken.{gate_plain, gate_reads, gate_written}
 use Rattle.journal_audit.proofs.ServedLines.{read_value}
@@ -83,7 +79,12 @@ proposal_sound (Closed market orders) h = refl
 proposal_sound (Reopened market) h = refl
 proposal_sound MarketIsClosed h = refl
 proposal_sound MarketIsOpen h = refl
-proposal_sound (Account told) h = refl
+proposal_sound (Secured account amount) h = refl
+proposal_sound (Needs needed) h = refl
+proposal_sound (Uncovered n) h = refl
+proposal_sound (Quoted market bid ask) h = refl
+proposal_sound (Priced market quantity ask bid) h = refl
+proposal_sound (Margin account market margin) h = refl
 proposal_sound (Tried market trial) h = refl
 proposal_sound (Barred bar) h = refl
 
@@ -114,21 +115,19 @@ proposal_beside line (Closed market orders) = record { shape = refl; accepted = 
 proposal_beside line (Reopened market) = record { shape = refl; accepted = refl; questioned = refl; gate = refl }
 proposal_beside line MarketIsClosed = record { shape = refl; accepted = refl; questioned = refl; gate = refl }
 proposal_beside line MarketIsOpen = record { shape = refl; accepted = refl; questioned = refl; gate = refl }
-proposal_beside line (Account (Secured account amount)) = record { shape = refl; accepted = refl; questioned = refl; gate = refl }
-proposal_beside line (Account (Needs needed)) = record { shape = refl; accepted = refl; questioned = refl; gate = refl }
-proposal_beside line (Account (Uncovered n)) = record { shape = refl; accepted = refl; questioned = refl; gate = refl }
+proposal_beside line (Secured account amount) = record { shape = refl; accepted = refl; questioned = refl; gate = refl }
+proposal_beside line (Needs needed) = record { shape = refl; accepted = refl; questioned = refl; gate = refl }
+proposal_beside line (Uncovered n) = record { shape = refl; accepted = refl; questioned = refl; gate = refl }
+proposal_beside line (Quoted market bid ask) = record { shape = refl; accepted = refl; questioned = refl; gate = refl }
+proposal_beside line (Priced market quantity ask bid) = record { shape = refl; accepted = refl; questioned = refl; gate = refl }
+proposal_beside line (Margin account market (margin.Least liability at)) = record { shape = refl; accepted = refl; questioned = refl; gate = refl }
+proposal_beside line (Margin account market (margin.Unbounded ray)) = record { shape = refl; accepted = refl; questioned = refl; gate = refl }
+proposal_beside line (Margin account market margin.Wide) = record { shape = refl; accepted = refl; questioned = refl; gate = refl }
+proposal_beside line (Margin account market margin.Budget) = record { shape = refl; accepted = refl; questioned = refl; gate = refl }
 proposal_beside line (Tried market trial) = record { shape = refl; accepted = refl; questioned = refl; gate = refl }
 proposal_beside line (Barred NotAllowed) = record { shape = refl; accepted = refl; questioned = refl; gate = refl }
 proposal_beside line (Barred NotAsked) = record { shape = refl; accepted = refl; questioned = refl; gate = refl }
 proposal_beside line (Barred OverQuota) = record { shape = refl; accepted = refl; questioned = refl; gate = refl }
-
-asked_beside : (line : ℕ) (reply : AskedReply) → IsBeside (piece_data (asked_piece line reply))
-asked_beside line (Quoted market bid ask) = record { shape = refl; accepted = refl; questioned = refl; gate = refl }
-asked_beside line (Priced market quantity ask bid) = record { shape = refl; accepted = refl; questioned = refl; gate = refl }
-asked_beside line (Margin account market (told.Least liability at)) = record { shape = refl; accepted = refl; questioned = refl; gate = refl }
-asked_beside line (Margin account market (told.Unbounded ray)) = record { shape = refl; accepted = refl; questioned = refl; gate = refl }
-asked_beside line (Margin account market told.Wide) = record { shape = refl; accepted = refl; questioned = refl; gate = refl }
-asked_beside line (Margin account market told.Budget) = record { shape = refl; accepted = refl; questioned = refl; gate = refl }
 
 gate_beside : (line : ℕ) (refused : GateLine) → IsOfGate (piece_data (gate_piece line refused))
 gate_beside line Malformed = record { shape = refl; accepted = refl; questioned = refl; gate = refl }
@@ -185,19 +184,17 @@ proposal_object line (Closed market orders) = tt
 proposal_object line (Reopened market) = tt
 proposal_object line MarketIsClosed = tt
 proposal_object line MarketIsOpen = tt
-proposal_object line (Account (Secured account amount)) = tt
-proposal_object line (Account (Needs needed)) = tt
-proposal_object line (Account (Uncovered n)) = tt
+proposal_object line (Secured account amount) = tt
+proposal_object line (Needs needed) = tt
+proposal_object line (Uncovered n) = tt
+proposal_object line (Quoted market bid ask) = tt
+proposal_object line (Priced market quantity ask bid) = tt
+proposal_object line (Margin account market (margin.Least liability at)) = tt
+proposal_object line (Margin account market (margin.Unbounded ray)) = tt
+proposal_object line (Margin account market margin.Wide) = tt
+proposal_object line (Margin account market margin.Budget) = tt
 proposal_object line (Tried market trial) = tt
 proposal_object line (Barred bar) = tt
-
-asked_object : (line : ℕ) (reply : AskedReply) → IsObject (asked_piece line reply)
-asked_object line (Quoted market bid ask) = tt
-asked_object line (Priced market quantity ask bid) = tt
-asked_object line (Margin account market (told.Least liability at)) = tt
-asked_object line (Margin account market (told.Unbounded ray)) = tt
-asked_object line (Margin account market told.Wide) = tt
-asked_object line (Margin account market told.Budget) = tt
 
 object_data : (p : Piece) → IsObject p → is_object (piece_data p) ≡ true
 object_data (object fs) h = refl
@@ -285,9 +282,15 @@ proposal_tells line (Closed market orders) = refl
 proposal_tells line (Reopened market) = refl
 proposal_tells line MarketIsClosed = refl
 proposal_tells line MarketIsOpen = refl
-proposal_tells line (Account (Secured account amount)) = refl
-proposal_tells line (Account (Needs needed)) = refl
-proposal_tells line (Account (Uncovered n)) = refl
+proposal_tells line (Secured account amount) = refl
+proposal_tells line (Needs needed) = refl
+proposal_tells line (Uncovered n) = refl
+proposal_tells line (Quoted market bid ask) = refl
+proposal_tells line (Priced market quantity ask bid) = refl
+proposal_tells line (Margin account market (margin.Least liability at)) = refl
+proposal_tells line (Margin account market (margin.Unbounded ray)) = refl
+proposal_tells line (Margin account market margin.Wide) = refl
+proposal_tells line (Margin account market margin.Budget) = refl
 proposal_tells line (Tried market trial) = refl
 proposal_tells line (Barred NotAllowed) = refl
 proposal_tells line (Barred NotAsked) = refl
@@ -302,33 +305,9 @@ proposal_found_sound text reply h =
     (ap (λ r. fault_in (proposal_found r)) (value_is text d json proposal_tests (h.line, reply) (ap (read_by proposal_tests) h.is_line.1 ∙ reply_reads h.line reply h.is_line.0))
     ∙ proposal_sound reply h.proved))
 
--- it tells no proposal
-record IsAsked (d : Data) : Type 0 where
-  proposal : tells_proposal (word_at (codes "reply") d) d ≡ false
-  asked : tells_asked (word_at (codes "reply") d) ≡ true
-
-asked_tells : (line : ℕ) (reply : AskedReply) → IsAsked (piece_data (asked_piece line reply))
-asked_tells line (Quoted market bid ask) = record { proposal = refl; asked = refl }
-asked_tells line (Priced market quantity ask bid) = record { proposal = refl; asked = refl }
-asked_tells line (Margin account market (told.Least liability at)) = record { proposal = refl; asked = refl }
-asked_tells line (Margin account market (told.Unbounded ray)) = record { proposal = refl; asked = refl }
-asked_tells line (Margin account market told.Wide) = record { proposal = refl; asked = refl }
-asked_tells line (Margin account market told.Budget) = record { proposal = refl; asked = refl }
-
-asked_found_sound : (text : List ℕ) (reply : AskedReply) → IsToldLineOf text reply → IsFoundSound text
-asked_found_sound text reply h =
-    let line = h.0 in
-    let p = asked_piece line reply in
-    let d = piece_data p in
-    let tells = asked_tells line reply in
-    beside_found text p (asked_object line reply) (asked_plain line reply) (asked_written line reply h.1.0) h.1.1 (asked_beside line reply)
-    (λ json. rw (tells.proposal, tells.asked)
-    (ap (λ r. fault_in (plain_found r)) (value_is text d json asked_tests (line, reply) (ap (read_by asked_tests) h.1.1 ∙ asked_reads line reply h.1.0))))
-
 served_found : (text : List ℕ) (reply : ServedReply) → IsServedLineOf text reply → IsFoundSound text
-served_found text (OfRun reply) h = run_found text reply h
-served_found text (OfProposals reply) h = proposal_found_sound text reply h
-served_found text (OfAsked reply) h = asked_found_sound text reply h
+served_found text (answered.Plain reply) h = run_found text reply h
+served_found text (answered.Told reply) h = proposal_found_sound text reply h
 
 -- ---- lines of the gate
 

@@ -1,5 +1,3 @@
-mod AskedTaken
-pub mod AskedExactly
 mod ServedLines
 pub mod AuditSays
 pub mod GateTaken

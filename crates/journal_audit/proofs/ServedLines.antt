@@ -16,19 +16,17 @@ use Rattle.reply_text.specs.Tests.{Tests, json_by, json_of, read_by, value_by}
 use Rattle.reply_text.proofs.FiveTests.{never_memory, never_memory_in}
 use Rattle.proposal_text.specs.declared.replies.BoundedOutcome.{BoundedOutcome}
 use Rattle.proposal_text.specs.declared.replies.ProposalReply.{ProposalReply}
-use Rattle.proposal_text.specs.declared.replies.ProposalReply.TheVariants.{Book, Positions, Proposed, Bounded as BoundedReply, Stale, Unproved, Closed, Reopened, MarketIsClosed, MarketIsOpen, Account, Tried, Barred}
+use Rattle.proposal_text.specs.declared.replies.ProposalReply.TheVariants.{Book, Positions, Proposed, Bounded as BoundedReply, Stale, Unproved, Closed, Reopened, MarketIsClosed, MarketIsOpen, Secured, Needs, Uncovered, Quoted, Priced, Margin, Tried, Barred}
+use Rattle.proposal_text.specs.declared.replies.ServedReply.TheVariants as answered
 use Rattle.proposal_text.specs.ReplyValues.{IsProposalLineOf, proposal_tests}
 use Rattle.proposal_text.proofs.ReadExactly.{line_of}
-use Rattle.journal_audit.specs.declared.asked_replies.AskedReply.{AskedReply}
-use Rattle.journal_audit.specs.AskedValues.{asked_tests}
-use Rattle.journal_audit.proofs.AskedExactly.{asked_line_of}
 use Rattle.journal_check.specs.declared.findings.Finding.{Finding}
 use Rattle.journal_check.specs.declared.findings.Finding.TheVariants.{Plain, Cleared, Bounded, Faulty}
 use Rattle.journal_check.specs.Findings.{bounded_finding, fault_finding, finding_of, read_finding, reply_finding}
 use Rattle.journal_check.specs.Laws.{IsSoundLineOf, reply_counts}
 use Rattle.journal_check.proofs.LineSays.{FindingSays, IsCountedBy, line_says}
-use Rattle.journal_audit.specs.Findings.{beside, plain_found, proposal_finding, proposal_found, served_finding, tells_asked, tells_proposal, told_finding, value_finding}
-use Rattle.journal_audit.specs.Laws.{IfBounded, IsServedLineOf, OfAsked, OfProposals, OfRun, is_bounded, served_counts}
+use Rattle.journal_audit.specs.Findings.{beside, proposal_finding, proposal_found, served_finding, tells_proposal, told_finding, value_finding}
+use Rattle.journal_audit.specs.Laws.{IfBounded, IsServedLineOf, is_bounded, served_counts}
 
 -- where the line is not found faulty
 abbrev pub IfSound : Finding → Type 0 → Type 0
@@ -64,7 +62,7 @@ fault_served text f some = fault_sound (IsServedAs text (fault_finding f)) f som
 -- ---- lines of a run
 
 run_told : (text : List ℕ) (f : Finding) → IsCountedBy IsSoundLineOf reply_counts text f → IsServedAs text f
-run_told text f h = record { reply = OfRun h.reply; is_line = h.is_line; batch = h.batch; bounded = h.bounded; optimal = h.optimal }
+run_told text f h = record { reply = answered.Plain h.reply; is_line = h.is_line; batch = h.batch; bounded = h.bounded; optimal = h.optimal }
 
 run_says : (text : List ℕ) (f : Finding) → FindingSays text f → IsSoundAs text f
 run_says text (Faulty reason) h = tt
@@ -86,7 +84,7 @@ judged : (text : List ℕ) (line number market : ℕ) (batch : Batch) (outcome :
 judged text line number market batch outcome judgement.Yes e h =
     let shows = (bounded_shows batch outcome.proposal outcome.bound judgement.Yes e).0 in
     record {
-      reply = OfProposals (BoundedReply number market batch outcome);
+      reply = answered.Told (BoundedReply number market batch outcome);
       is_line = record {
         line = line;
         is_line = h;
@@ -101,7 +99,7 @@ judged text line number market batch outcome (judgement.Wide w) e h = tt
 
 told_plain : (text : List ℕ) (line : ℕ) (reply : ProposalReply) → IsProposalLineOf text line reply → IfBounded reply → is_bounded reply ≡ false → IsServedAs text Plain
 told_plain text line reply h proved none =
-    record { reply = OfProposals reply; is_line = record { line = line; is_line = h; proved = proved }; batch = none; bounded = none; optimal = refl }
+    record { reply = answered.Told reply; is_line = record { line = line; is_line = h; proved = proved }; batch = none; bounded = none; optimal = refl }
 
 proposal_says : (text : List ℕ) (line : ℕ) (reply : ProposalReply) → IsProposalLineOf text line reply → IsSoundAs text (proposal_finding reply)
 proposal_says text line (Book market batch) h = told_plain text line (Book market batch) h tt refl
@@ -115,7 +113,12 @@ proposal_says text line (Closed market orders) h = told_plain text line (Closed 
 proposal_says text line (Reopened market) h = told_plain text line (Reopened market) h tt refl
 proposal_says text line MarketIsClosed h = told_plain text line MarketIsClosed h tt refl
 proposal_says text line MarketIsOpen h = told_plain text line MarketIsOpen h tt refl
-proposal_says text line (Account told) h = told_plain text line (Account told) h tt refl
+proposal_says text line (Secured account amount) h = told_plain text line (Secured account amount) h tt refl
+proposal_says text line (Needs needed) h = told_plain text line (Needs needed) h tt refl
+proposal_says text line (Uncovered need) h = told_plain text line (Uncovered need) h tt refl
+proposal_says text line (Quoted market bid ask) h = told_plain text line (Quoted market bid ask) h tt refl
+proposal_says text line (Priced market quantity ask bid) h = told_plain text line (Priced market quantity ask bid) h tt refl
+proposal_says text line (Margin account market margin) h = told_plain text line (Margin account market margin) h tt refl
 proposal_says text line (Tried market trial) h = told_plain text line (Tried market trial) h tt refl
 proposal_says text line (Barred bar) h = told_plain text line (Barred bar) h tt refl
 
@@ -124,19 +127,13 @@ module _ (text : List ℕ) (d : Data) (json : json_of text ≡ Some d) where
   proposal_read (Ok pair) e = proposal_says text pair.0 pair.1 (line_of text pair.0 pair.1 (read_value proposal_tests text d json ∙ e))
   proposal_read (Err f) e = fault_served text f (λ memory. never_memory proposal_tests text d (e ∙ ap Err memory))
 
-  asked_read : (r : Result (ℕ × AskedReply) LineFault) → value_by asked_tests text d ≡ r → IsSoundAs text (plain_found r)
-  asked_read (Ok pair) e =
-      record { reply = OfAsked pair.1; is_line = (pair.0, asked_line_of text pair.0 pair.1 (read_value asked_tests text d json ∙ e)); batch = refl; bounded = refl; optimal = refl }
-  asked_read (Err f) e = fault_served text f (λ memory. never_memory asked_tests text d (e ∙ ap Err memory))
-
-  by_tests : (a b : Bool) (f : LineFault) → (f ≡ Memory → ⊥)
-      → IsSoundAs text (if a then proposal_found (value_by proposal_tests text d) else if b then plain_found (value_by asked_tests text d) else fault_finding f)
-  by_tests true b f some = proposal_read (value_by proposal_tests text d) refl
-  by_tests false true f some = asked_read (value_by asked_tests text d) refl
-  by_tests false false f some = fault_served text f some
+  by_tests : (tells : Bool) (f : LineFault) → (f ≡ Memory → ⊥)
+      → IsSoundAs text (if tells then proposal_found (value_by proposal_tests text d) else fault_finding f)
+  by_tests true f some = proposal_read (value_by proposal_tests text d) refl
+  by_tests false f some = fault_served text f some
 
   pub value_sound : (f : LineFault) (word : List ℕ) → (f ≡ Memory → ⊥) → IsSoundAs text (value_finding text f word d)
-  value_sound f word some = by_tests (tells_proposal word d) (tells_asked word) f some
+  value_sound f word some = by_tests (tells_proposal word d) f some
 
 beside_sound : (text : List ℕ) (f : LineFault) (value : Option Data) → json_of text ≡ value → (f ≡ Memory → ⊥) → IsSoundAs text (beside text f value)
 beside_sound text f None json some = fault_served text f some

@@ -12,7 +12,6 @@ use Rattle.reply_text.specs.Tests.{json_of, value_by}
 use Rattle.proposal_text.specs.declared.replies.ProposalReply.{ProposalReply}
 use Rattle.proposal_text.specs.declared.replies.ProposalReply.TheVariants as told
 use Rattle.proposal_text.specs.ReplyValues.{proposal_tests}
-use Rattle.journal_audit.specs.AskedValues.{asked_tests}
 use Rattle.journal_check.specs.declared.findings.Finding.{Finding}
 use Rattle.journal_check.specs.declared.findings.Finding.TheVariants.{Plain, Faulty}
 use Rattle.journal_check.specs.declared.reports.Reason.TheVariants.{Range, Spelling}
@@ -48,25 +47,24 @@ is_served_word word =
     (bytes_eq word (codes "closed") || bytes_eq word (codes "reopened"))
     || (bytes_eq word (codes "secured") || (bytes_eq word (codes "need") || bytes_eq word (codes "tried")))
 
--- whether the value is that of a line about proposals, phases, needs or trials, or of a refusal
--- that a run has not
+-- whether a word is that of a reply that tells a quote, prices or a margin
+abbrev pub is_asked_word : List ℕ → Bool
+is_asked_word word = bytes_eq word (codes "quoted") || (bytes_eq word (codes "priced") || bytes_eq word (codes "margin"))
+
+-- whether the value is that of a line that tells what is told beside a run, or of a refusal that a
+-- run has not
 abbrev pub tells_proposal : List ℕ → Data → Bool
 tells_proposal word d =
     (bytes_eq word (codes "book") || (bytes_eq word (codes "positions") || bytes_eq word (codes "proposed")))
     || ((bytes_eq word (codes "cleared") && number_at (codes "version") d == 3)
     || (is_served_word word
-    || (bytes_eq word (codes "refused") && is_served_refusal (number_at (codes "number") d))))
-
--- or of one that tells quotes, prices or margins
-abbrev pub tells_asked : List ℕ → Bool
-tells_asked word = bytes_eq word (codes "quoted") || (bytes_eq word (codes "priced") || bytes_eq word (codes "margin"))
+    || (is_asked_word word
+    || (bytes_eq word (codes "refused") && is_served_refusal (number_at (codes "number") d)))))
 
 -- a line that is not one of a run, which fails its tests by the fault
 abbrev pub value_finding : List ℕ → LineFault → List ℕ → Data → Finding
 value_finding text f word d =
-    if tells_proposal word d then proposal_found (value_by proposal_tests text d)
-    else if tells_asked word then plain_found (value_by asked_tests text d)
-    else fault_finding f
+    if tells_proposal word d then proposal_found (value_by proposal_tests text d) else fault_finding f
 
 abbrev pub beside : List ℕ → LineFault → Option Data → Finding
 beside text f None = fault_finding f

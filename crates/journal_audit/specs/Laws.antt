@@ -9,13 +9,12 @@ use Rattle.cert_check.specs.Laws.{IsCovered}
 use Rattle.proposal_check.specs.ProposalLaws.{BoundSurplus, HasBound}
 use Rattle.proposal_check.specs.Proposals.{as_outcome, bounded_verdict_of}
 use Rattle.limits.specs.declared.TheConstants.{MAX_MESSAGE}
-use Rattle.reply_print.specs.declared.replies.Reply.{Reply}
 use Rattle.proposal_text.specs.declared.replies.BoundedOutcome.{BoundedOutcome}
 use Rattle.proposal_text.specs.declared.replies.ProposalReply.{ProposalReply}
 use Rattle.proposal_text.specs.declared.replies.ProposalReply.TheVariants as told
+use Rattle.proposal_text.specs.declared.replies.ServedReply.{ServedReply}
+use Rattle.proposal_text.specs.declared.replies.ServedReply.TheVariants.{Plain, Told}
 use Rattle.proposal_text.specs.ReplyValues.{IsProposalLineOf}
-use Rattle.journal_audit.specs.declared.asked_replies.AskedReply.{AskedReply}
-use Rattle.journal_audit.specs.AskedValues.{IsAskedLineOf}
 use Rattle.journal_check.specs.declared.findings.Finding.TheVariants.{Faulty}
 use Rattle.journal_check.specs.declared.reports.Reason.{Reason}
 use Rattle.journal_check.specs.declared.reports.Report.{Report}
@@ -39,30 +38,18 @@ abbrev pub IfBounded : ProposalReply → Type 0
 IfBounded (told.Bounded number market batch outcome) = IsBoundedProved batch outcome
 IfBounded other = Unit {0}
 
--- the line of a reply about proposals within its ranges, which is proved if it is a cleared batch
+-- the line of what is told beside a run, within its ranges, which is proved if it is a cleared batch
 pub record IsProposedLineOf (text : List ℕ) (reply : ProposalReply) : Type 0 where
   pub line : ℕ
   pub is_line : IsProposalLineOf text line reply
   pub proved : IfBounded reply
 
--- the line tells a quote, prices or a margin
-abbrev pub IsToldLineOf : List ℕ → AskedReply → Type 0
-IsToldLineOf text reply = (line : ℕ) × IsAskedLineOf text line reply
-
--- the reply to a line of `serve`: one of a run, one about proposals, or what is told of quotes,
--- prices and margins
-pub data ServedReply : Type 0 where
-  OfRun : Reply → ServedReply
-  OfProposals : ProposalReply → ServedReply
-  OfAsked : AskedReply → ServedReply
-
 -- a sound line of `serve`: the print of a reply within its ranges; a cleared line covers its
 -- surplus, which is the greatest where it is marked optimal, and within the bound where it is
 -- marked bounded
 abbrev pub IsServedLineOf : List ℕ → ServedReply → Type 0
-IsServedLineOf text (OfRun reply) = IsSoundLineOf text reply
-IsServedLineOf text (OfProposals reply) = IsProposedLineOf text reply
-IsServedLineOf text (OfAsked reply) = IsToldLineOf text reply
+IsServedLineOf text (Plain reply) = IsSoundLineOf text reply
+IsServedLineOf text (Told reply) = IsProposedLineOf text reply
 
 -- the gate refuses a message
 abbrev pub IsGateLineFor : List ℕ → GateLine → Type 0
@@ -107,19 +94,16 @@ is_bounded (told.Bounded number market batch outcome) = true
 is_bounded other = false
 
 abbrev pub serve_clears : ServedReply → Bool
-serve_clears (OfRun reply) = clears reply
-serve_clears (OfProposals reply) = is_bounded reply
-serve_clears (OfAsked reply) = false
+serve_clears (Plain reply) = clears reply
+serve_clears (Told reply) = is_bounded reply
 
 abbrev pub serve_bounds : ServedReply → Bool
-serve_bounds (OfRun reply) = false
-serve_bounds (OfProposals reply) = is_bounded reply
-serve_bounds (OfAsked reply) = false
+serve_bounds (Plain reply) = false
+serve_bounds (Told reply) = is_bounded reply
 
 abbrev pub serve_is_optimal : ServedReply → Bool
-serve_is_optimal (OfRun reply) = clears_optimal reply
-serve_is_optimal (OfProposals reply) = false
-serve_is_optimal (OfAsked reply) = false
+serve_is_optimal (Plain reply) = clears_optimal reply
+serve_is_optimal (Told reply) = false
 
 abbrev pub served_counts : Counts ServedReply
 served_counts = record { batch = serve_clears; bounded = serve_bounds; optimal = serve_is_optimal }

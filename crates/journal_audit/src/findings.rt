@@ -3,15 +3,13 @@ ghost use Rattle.std.specs.Prelude.{◌≡◌, IfOk, Some, codes, option_map};
 ghost use Rattle.serde_json.specs.View.{view};
 ghost use Rattle.reply_print.specs.Look.{word_at as word_found};
 ghost use Rattle.reply_text.specs.Tests.{json_of, value_by};
-ghost use Rattle.journal_audit.specs.AskedValues.{asked_tests};
 ghost use Rattle.proposal_text.specs.ReplyValues.{proposal_tests};
 ghost use Rattle.proposal_text.specs.Within.{IsProposalReplyWithin};
 ghost use Rattle.journal_audit.specs.Accepted.{message_from as message_found};
 ghost use Rattle.journal_audit.specs.GateLines.{gate_tests, session_at as session_found};
-ghost use Rattle.journal_audit.specs.Findings.{accepted_finding as accepted_is, plain_found as plain_read, proposal_found as proposal_read, audit_finding as audit_is, beside as beside_is, is_served_refusal as served_refusal_is, is_served_word as served_word_is, proposal_finding as proposal_is, questioned_finding as questioned_is, reply_found as reply_is, served_finding as served_is, session_beside as session_beside_is, session_value_finding as session_value_is, tells_asked as asked_is_told, tells_proposal as proposal_is_told, unspelled as unspelled_is, value_finding as value_is};
+ghost use Rattle.journal_audit.specs.Findings.{accepted_finding as accepted_is, plain_found as plain_read, proposal_found as proposal_read, audit_finding as audit_is, beside as beside_is, is_asked_word as asked_word_is, is_served_refusal as served_refusal_is, is_served_word as served_word_is, proposal_finding as proposal_is, questioned_finding as questioned_is, reply_found as reply_is, served_finding as served_is, session_beside as session_beside_is, session_value_finding as session_value_is, tells_proposal as proposal_is_told, unspelled as unspelled_is, value_finding as value_is};
 
 use crate::accepted::{is_accepted, is_questioned, message_from, question_in, reply_in};
-use crate::asked_reading::read_asked_value;
 use crate::gate_reading::{read_gate_value, session_at};
 use journal_check::findings::{bounded_finding, fault_finding, reply_finding};
 use journal_check::{Finding, Reason};
@@ -50,38 +48,30 @@ fn is_served_word(word: &str) -> bool
         || (word == "secured" || word == "need" || word == "tried")
 }
 
+// Whether a word is that of a reply that tells a quote, prices or a margin.
+fn is_asked_word(word: &str) -> bool
+    ensures { result ≡ asked_word_is word.now }
+{
+    word == "quoted" || word == "priced" || word == "margin"
+}
+
 fn tells_proposal(value: &Value, word: &str) -> bool
     ensures { result ≡ proposal_is_told word.now (view value.now) }
 {
     (word == "book" || word == "positions" || word == "proposed")
         || (word == "cleared" && number_at(value, "version") == 3)
         || is_served_word(word)
+        || is_asked_word(word)
         || (word == "refused" && is_served_refusal(number_at(value, "number")))
 }
 
-fn tells_asked(word: &str) -> bool
-    ensures { result ≡ asked_is_told word.now }
-{
-    word == "quoted" || word == "priced" || word == "margin"
-}
-
-// A line about proposals, phases, needs or trials.
+// A line that tells what is told beside a run.
 fn proposal_found(alloc: Global, text: &[u8], value: &Value) -> Result<Finding, AllocError>
     requires { json_of text.now ≡ Some (view value.now) }
     ensures { IfOk result (λ f. f ≡ proposal_read (value_by proposal_tests text.now (view value.now))) }
 {
     match read_proposal_value(alloc, text, value) {
         Ok((_, reply)) => proposal_finding(alloc, &reply),
-        Err(fault) => fault_finding(fault),
-    }
-}
-
-// A line that tells a quote, prices or a margin.
-fn asked_found(alloc: Global, text: &[u8], value: &Value) -> Result<Finding, AllocError>
-    ensures { IfOk result (λ f. f ≡ plain_read (value_by asked_tests text.now (view value.now))) }
-{
-    match read_asked_value(alloc, text, value) {
-        Ok(_) => Ok(Finding::Plain),
         Err(fault) => fault_finding(fault),
     }
 }
@@ -110,8 +100,6 @@ fn value_finding(
     let word = word_at(value, "reply");
     if tells_proposal(value, word) {
         proposal_found(alloc, text, value)
-    } else if tells_asked(word) {
-        asked_found(alloc, text, value)
     } else {
         fault_finding(fault)
     }
