@@ -37,7 +37,7 @@ use Rattle.proposal_lines.specs.Laws.{IsRefused}
 use Rattle.proposal_lines.specs.Proposed.{judged_effect, kept_by, proposed_by, stale_effect, unproved_effect}
 use Rattle.proposal_lines.specs.Reads.{refused_by}
 use Rattle.proposal_lines.specs.declared.proposed.Proposed.{Proposed}
-use Rattle.proposal_lines.specs.declared.replies.ProposingReply.TheVariants.{Told}
+use Rattle.proposal_text.specs.declared.replies.ServedReply.TheVariants.{Told}
 use Rattle.proposal_text.specs.declared.replies.FailureKind.TheVariants as failed
 use Rattle.proposal_text.specs.declared.replies.ProposalReply.{ProposalReply}
 use Rattle.proposals.specs.Best.{are_same_orders}

@@ -3,7 +3,7 @@ ghost use Rattle.std.specs.Prelude.{◌≡◌, IfOk};
 ghost use Rattle.member_lines.specs.Refused.{refused_as, refused_text};
 
 use members::MemberRefusal;
-use proposal_text::{Bar, ProposalReply, print_proposal_reply};
+use proposal_text::{Bar, ProposalReply, ServedReply, print_line};
 use std::alloc::{AllocError, Global};
 
 fn refused_as(refusal: MemberRefusal) -> ProposalReply
@@ -23,7 +23,5 @@ pub(crate) fn refused_text(
 ) -> Result<Vec<u8>, AllocError>
     ensures { IfOk result (λ text. text.items ≡ refused_text number refusal) }
 {
-    let mut text = print_proposal_reply(alloc, number, &refused_as(refusal))?;
-    text.push(b'\n')?;
-    Ok(text)
+    print_line(alloc, number, &ServedReply::Told(refused_as(refusal)))
 }

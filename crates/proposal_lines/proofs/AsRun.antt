@@ -12,10 +12,10 @@ use Rattle.command_text.specs.Said.{said_in}
 use Rattle.exchange_core.specs.ExchangeState.{ExchangeState}
 use Rattle.exchange_core.specs.declared.refusal.Refusal.TheVariants as refusal
 use Rattle.exchange_lines.specs.LineSteps.{IsAsRun}
-use Rattle.guarded_lines.specs.Output as guarded
 use Rattle.guarded_lines.specs.Output.{IsMarginText}
 use Rattle.guarded_lines.specs.Replies.{guarded_reply_to}
 use Rattle.guarded_lines.proofs.AsRun.{said_told}
+use Rattle.proposal_text.specs.Pieces.{written_reply}
 use Rattle.quote_lines.specs.Output.{IsPriceText, IsQuoteText}
 use Rattle.quote_lines.proofs.AsRun.{prices_told_of, quote_told}
 use Rattle.proposal_lines.specs.AllKindsLaws.{AllAnswerAsRun}
@@ -38,7 +38,7 @@ module _ (number : ℕ) (state : ExchangeState) (heard : Body) where
   abbrev Answers : Result Request Fault → Type 0
   Answers said = Hears heard said → IsAsRun IsBesideText number state heard (said_line number state said)
 
-  by_margin : (said : Result Request Fault) → Hears heard said → IsAsRun IsBesideText number state heard (guarded.written_reply number (guarded_reply_to state said))
+  by_margin : (said : Result Request Fault) → Hears heard said → IsAsRun IsBesideText number state heard (written_reply number (guarded_reply_to state said))
   by_margin said is = with_more IsMarginText IsBesideText number state heard _ (λ is. inr (inr is)) (said_told number state heard said is)
 
   pub said_as_run : (said : Result Request Fault) → Answers said

@@ -13,17 +13,18 @@ use Rattle.exchange_core.specs.declared.refusal.Refusal.{Refusal}
 use Rattle.exchange_core.specs.ExchangeState.{ExchangeState}
 use Rattle.exchange_core.specs.Step.{batch_in}
 use Rattle.exchange_lines.specs.LineSteps.{InputLine}
+use Rattle.proposal_text.specs.Pieces.{served_line}
 use Rattle.proposal_text.specs.declared.replies.ProposalReply.TheVariants as told
 use Rattle.quote_lines.specs.Laws.{TellsPrices, TellsQuote}
 use Rattle.quote_lines.specs.Replies.{tried_for}
 use Rattle.quote_lines.proofs.Thresholds.{priced_lines_are_thresholds, quoted_lines_are_thresholds, tried_orders_are_filled}
 use Rattle.proposal_lines.specs.Laws.{IsSound}
-use Rattle.proposal_lines.specs.Output.{proposing_line, proposing_reply_line, served_line}
+use Rattle.proposal_lines.specs.Output.{proposing_line, proposing_said}
 use Rattle.proposal_lines.specs.Answers.{TellsAsked, TellsTrial}
 use Rattle.proposal_lines.specs.ProposingState.{ProposingState}
 use Rattle.proposal_lines.specs.Reads.{refused_by}
 use Rattle.proposal_lines.specs.Trials.{trial_of}
-use Rattle.proposal_lines.specs.declared.replies.ProposingReply.TheVariants.{Told}
+use Rattle.proposal_text.specs.declared.replies.ServedReply.TheVariants.{Told}
 
 -- what is written, and the exchange after it
 abbrev pub with_exchange : List ℕ × ProposingState → List ℕ × ExchangeState
@@ -31,7 +32,7 @@ with_exchange now = (now.0, now.1.exchange)
 
 pub asked_told : (state : ProposingState) (line : InputLine) → IsSound state → TellsAsked state line (with_exchange (proposing_line line.number state line.bytes))
 asked_told state line sound =
-    let answer : Result Request Fault → List ℕ × ExchangeState = λ said. with_exchange (served_line line.number state line.bytes said) in
+    let answer : Result Request Fault → List ℕ × ExchangeState = λ said. with_exchange (proposing_said line.number state line.bytes said) in
     let within : (said : Result Request Fault) → said_in SERVED line.bytes ≡ said → IfOk said RequestIsWithin =
     λ said is. subst (λ said. IfOk said RequestIsWithin) is (said_is_within SERVED line.bytes) in
     record {
@@ -44,7 +45,7 @@ asked_told state line sound =
       trial = λ request is allowed.
           let tried = tried_for (batch_in state.exchange request.quote.market) request in
           let told_by : Option Refusal → List ℕ × ExchangeState = λ refused.
-          (proposing_reply_line line.number (option_map_or refused_by refused (Told (told.Tried request.quote.market (trial_of tried)))) ++ 10 ∷ [], state.exchange) in
+          (served_line line.number (option_map_or refused_by refused (Told (told.Tried request.quote.market (trial_of tried)))) ++ 10 ∷ [], state.exchange) in
           subst (TellsTrial line.number state.exchange request) (ap answer (sym is))
           (ap told_by allowed, tried_orders_are_filled state.exchange request sound.kept (within (Ok (asks.Try request)) is) allowed);
     }

@@ -11,23 +11,23 @@ use Rattle.exchange_core.specs.Step.{batch_in}
 use Rattle.exchange_core.specs.declared.refusal.Refusal.{Refusal}
 use Rattle.exchange_core.specs.declared.refusal.Refusal.TheVariants as refusal
 use Rattle.lists.specs.Refusals.{first_of}
+use Rattle.proposal_text.specs.Pieces.{served_line}
 use Rattle.proposal_text.specs.declared.replies.ProposalReply.TheVariants as told
 use Rattle.quote_lines.specs.Refusals.{quote_refusals}
 use Rattle.quote_lines.specs.Replies.{tried_for}
 use Rattle.reply_print.specs.ReplyPieces.{reply_line}
-use Rattle.proposal_lines.specs.Output.{proposing_reply_line}
 use Rattle.proposal_lines.specs.Answers.{TakesNothing, IsBesideProposals}
 use Rattle.proposal_lines.specs.Reads.{book_refusals, book_reply, positions_refusals, positions_reply, refused_by, refused_by_fault, unless_refused}
 use Rattle.proposal_lines.specs.Trials.{trial_of, trial_reply}
-use Rattle.proposal_lines.specs.declared.replies.ProposingReply.{ProposingReply}
-use Rattle.proposal_lines.specs.declared.replies.ProposingReply.TheVariants.{Plain, Told}
+use Rattle.proposal_text.specs.declared.replies.ServedReply.{ServedReply}
+use Rattle.proposal_text.specs.declared.replies.ServedReply.TheVariants.{Plain, Told}
 
 -- a refusal, or a reply that tells of no batch
-abbrev pub IsBeside : ProposingReply → Type 0
+abbrev pub IsBeside : ServedReply → Type 0
 IsBeside (Plain reply) = (first : Refusal) × (reply ≡ refused_with first)
 IsBeside (Told reply) = TakesNothing reply
 
-pub beside_text : (number : ℕ) (reply : ProposingReply) → IsBeside reply → IsBesideProposals number (proposing_reply_line number reply ++ 10 ∷ [])
+pub beside_text : (number : ℕ) (reply : ServedReply) → IsBeside reply → IsBesideProposals number (served_line number reply ++ 10 ∷ [])
 beside_text number (Plain reply) (first, is) = inl (inl (inl (first, ap (λ r. reply_line number r ++ 10 ∷ []) is)))
 beside_text number (Told reply) none = inr (reply, none, refl)
 
@@ -40,7 +40,7 @@ pub refusal_beside : (first : Refusal) → IsBeside (refused_by first)
 refusal_beside first = (first, refl)
 
 -- ---- a read, and a trial
-unless_beside : (refusals : List (Bool × Refusal)) (reply : ProposingReply) → IsBeside reply → IsBeside (unless_refused refusals reply)
+unless_beside : (refusals : List (Bool × Refusal)) (reply : ServedReply) → IsBeside reply → IsBeside (unless_refused refusals reply)
 unless_beside refusals reply is = elim (first_of refusals) as (λ (r : Option Refusal). IsBeside (option_map_or refused_by r reply)) [
   | None ↦ is
   | Some first ↦ (first, refl)

@@ -29,7 +29,7 @@ use Rattle.proposal_lines.specs.ProposingState.{ProposingState, state_of}
 use Rattle.proposal_lines.specs.Proposed.{IsJudged, judged_effect, kept_by, offered}
 use Rattle.proposal_lines.specs.Proved.{AreProvedIn}
 use Rattle.proposal_lines.specs.declared.proposed.Proposed.{Proposed}
-use Rattle.proposal_lines.specs.declared.replies.ProposingReply.TheVariants.{Plain, Told}
+use Rattle.proposal_text.specs.declared.replies.ServedReply.TheVariants.{Plain, Told}
 use Rattle.proposal_lines.proofs.Clearing as clearing
 use Rattle.proposal_lines.proofs.Kept.{without_proved}
 use Rattle.proposal_lines.proofs.Moving.{after_batch_proved, entries_moved}

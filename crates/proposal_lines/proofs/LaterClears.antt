@@ -2,7 +2,7 @@
 use Rattle.std.proofs.Common.{◌≡◌, ℕ, List, [], ◌∷◌, Bool, true, false, nat_eq, if◌then◌else◌, Option, Some, None, Result, Ok, Err, refl, sym, ap, ◌∙◌, subst}
 use Rattle.std.specs.Option.{option_map_or}
 use Rattle.auction_phases.specs.Phases.{ended_in}
-use Rattle.proposal_lines.specs.AllKinds.{said_line}
+use Rattle.proposal_lines.specs.AllKinds.{said_reply}
 use Rattle.proposal_check.specs.Proposals.{proposal_bound}
 use Rattle.cert_check.specs.declared.outcome.Outcome.{Outcome}
 use Rattle.proposal_check.specs.declared.covers.BoundFailure.{BoundFailure as Reason}
@@ -36,13 +36,13 @@ use Rattle.proposal_lines.specs.Clears.{better_in, clear_reply, cleared_by, refe
 use Rattle.proposal_lines.specs.KeptByMarket.{KeptProposals, after_end, best_in, kept_in, stop_of, with_kept, without_kept}
 use Rattle.proposal_lines.specs.LaterClears.{IsNoClearOf, IsUnharmed, LeaveOrders, LowersNothing, ProposalsLowerNothing}
 use Rattle.proposal_lines.specs.Laws.{cleared_surplus}
-use Rattle.proposal_lines.specs.Output.{other_line, proposing_line, served_line, settlement_reply, written_reply}
+use Rattle.proposal_lines.specs.Output.{other_reply, proposing_line, proposing_reply, settlement_reply}
 use Rattle.proposal_lines.specs.Answers.{state_by}
 use Rattle.proposal_lines.specs.Proposed.{after_proposed, judged_effect, kept_by, offered, proposed_by, proposed_of, proposed_reply, stale_effect, unproved_effect}
 use Rattle.proposal_lines.specs.ProposingState.{ProposingState, state_of}
 use Rattle.proposal_lines.specs.Reads.{refused_by}
 use Rattle.proposal_lines.specs.declared.proposed.Proposed.{Proposed}
-use Rattle.proposal_lines.specs.declared.replies.ProposingReply.{ProposingReply}
+use Rattle.proposal_text.specs.declared.replies.ServedReply.{ServedReply}
 use Rattle.proposal_lines.proofs.Kept.{same_numbers}
 use Rattle.proposal_lines.proofs.SaidKinds.{by_kind}
 use Rattle.proposal_lines.proofs.Lowering.{IsNoLess, after_counts, after_no_less, after_no_worse, as_much, charged_no_less}
@@ -274,20 +274,20 @@ module _ (market : ℕ) (exchange : ExchangeState) (one other : KeptProposals) (
           subst (λ (q : ℕ). IsNoWorse market (state_of after (without_kept q one)) (state_of after (without_kept q other))) (sym (same_number ended market own)) (own_ended after)
       by false apart = other_ended after stay ended apart
 
-  module _ (number : ℕ) (line : List ℕ) where
-    abbrev Both : (ProposingState → List ℕ × ProposingState) → Type 0
+  module _ (line : List ℕ) where
+    abbrev Both : (ProposingState → ServedReply × ProposingState) → Type 0
     Both answer =
         OrdersStay (answer (state_of exchange one)).1.exchange → IsNoWorse market (answer (state_of exchange one)).1 (answer (state_of exchange other)).1
 
-    other_both : (said : Result Request Fault) → Both (λ state. other_line number state said)
-    other_both said stay = left_both (said_line number exchange said).1 stay (λ kept. kept) no_worse.others (λ kept. refl)
+    other_both : (said : Result Request Fault) → Both (λ state. other_reply state said)
+    other_both said stay = left_both (said_reply exchange said).1 stay (λ kept. kept) no_worse.others (λ kept. refl)
 
     -- a clear of another market
-    clear_both : (cleared budget : ℕ) → nat_eq cleared market ≡ false → Both (λ state. written_reply number (clear_reply state cleared budget))
+    clear_both : (cleared budget : ℕ) → nat_eq cleared market ≡ false → Both (λ state. clear_reply state cleared budget)
     clear_both cleared budget apart =
         subst (λ better. Both_by better) (sym same_better) (by (refusal_of exchange (Clear cleared budget)) (better_in (state_of exchange one) cleared budget))
       where
-        By : ProposingState → Option Refusal → Option BoundedOutcome → ProposingReply × ProposingState
+        By : ProposingState → Option Refusal → Option BoundedOutcome → ServedReply × ProposingState
         By state r better = option_map_or (λ first. (refused_by first, state)) r (cleared_by state cleared budget better)
 
         same_better : better_in (state_of exchange other) cleared budget ≡ better_in (state_of exchange one) cleared budget
@@ -308,16 +308,16 @@ module _ (market : ℕ) (exchange : ExchangeState) (one other : KeptProposals) (
         by None (Some better) stay = other_ended (cleared_with exchange cleared better.proposal.fills) stay cleared apart
 
     -- a settlement of any market
-    settle_both : (settled count : ℕ) (prices : List ℕ) → Both (λ state. written_reply number (settlement_reply state settled count prices))
+    settle_both : (settled count : ℕ) (prices : List ℕ) → Both (λ state. settlement_reply state settled count prices)
     settle_both settled count prices stay = ended_both (step exchange (Settle settled count prices)).1 stay (ended_in exchange (Settle settled count prices))
 
     -- what is no clear of the market
     abbrev ClearsNot : Result Request Fault → Type 0
     ClearsNot said = (budget : ℕ) → said ≡ Ok (asks.Command (Clear market budget)) → ⊥
 
-    pub said_both : (said : Result Request Fault) → ClearsNot said → Both (λ state. served_line number state line said)
+    pub said_both : (said : Result Request Fault) → ClearsNot said → Both (λ state. proposing_reply state line said)
     said_both =
-        by_kind (λ said. ClearsNot said → Both (λ state. served_line number state line said))
+        by_kind (λ said. ClearsNot said → Both (λ state. proposing_reply state line said))
         (λ request none stay. proposed_both (proposed_of line request))
         (λ cleared budget none. by cleared budget (nat_eq cleared market) refl none)
         (λ settled count prices none. settle_both settled count prices)
@@ -325,16 +325,16 @@ module _ (market : ℕ) (exchange : ExchangeState) (one other : KeptProposals) (
         (λ account read none stay. unchanged)
         (λ request none stay. unchanged)
         (λ said other none.
-        let same : (λ (state : ProposingState). other_line number state said) ≡ (λ (state : ProposingState). served_line number state line said) =
-        λ i state. sym (other.served number state line) i in
+        let same : (λ (state : ProposingState). other_reply state said) ≡ (λ (state : ProposingState). proposing_reply state line said) =
+        λ i state. sym (other.served state line) i in
         subst Both same (other_both said))
       where
         by : (cleared budget : ℕ) (b : Bool) → nat_eq cleared market ≡ b → ClearsNot (Ok (asks.Command (Clear cleared budget)))
-            → Both (λ state. written_reply number (clear_reply state cleared budget))
+            → Both (λ state. clear_reply state cleared budget)
         by cleared budget true own none = absurd (none budget (ap (λ (q : ℕ). Ok (asks.Command (Clear q budget))) (same_number cleared market own)))
         by cleared budget false apart none = clear_both cleared budget apart
 
-    pub line_both : IsNoClearOf market (body_of_line line) → Both (λ state. proposing_line number state line)
+    pub line_both : IsNoClearOf market (body_of_line line) → Both (λ state. proposing_reply state line (said_in SERVED line))
     line_both none = said_both (said_in SERVED line) (λ budget is. none budget (command_to_run SERVED line (Clear market budget) is))
 
 -- a state with the exchange of another
@@ -409,6 +409,6 @@ proposals_lower_nothing =
     lowers_nothing (λ state. state) proposing_line (λ state now. now)
     (λ market line state kept no_worse none stay. record {
       placed = refl;
-      no_worse = line_both market state.exchange state.kept kept no_worse line.number line.bytes none stay;
+      no_worse = line_both market state.exchange state.kept kept no_worse line.bytes none stay;
     })
     (λ state now. refl)

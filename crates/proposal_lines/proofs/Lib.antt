@@ -15,7 +15,6 @@ pub mod Telling
 pub mod ByMarket
 pub mod Lowering
 pub mod LaterClears
-pub mod Ends
 pub mod Without
 pub mod Charging
 pub mod UsingBest

@@ -16,10 +16,10 @@ use Rattle.exchange_lines.specs.GainRuns.{IfClears}
 use Rattle.reply_print.specs.declared.replies.Reply.{Reply}
 use Rattle.reply_print.specs.declared.replies.Reply.TheVariants as reply
 use Rattle.reply_print.specs.declared.replies.Reply.TheVariants.{Opened, Deposited, Withdrawn, Listed, Placed, Cancelled, Cleared, Settled, Refused}
-use Rattle.proposal_lines.specs.AllKinds.{said_line}
+use Rattle.proposal_lines.specs.AllKinds.{said_reply}
 use Rattle.proposal_lines.specs.Laws.{NoneCounts}
-use Rattle.proposal_lines.specs.Output.{other_line, served_line}
-use Rattle.proposal_lines.specs.Promises.{reading_said}
+use Rattle.proposal_lines.specs.Output.{other_reply, proposing_reply}
+use Rattle.proposal_lines.specs.Reading.{reading_reply}
 use Rattle.proposal_lines.specs.ProposingState.{ProposingState}
 
 -- where a batch is cleared whose run stopped, nothing is kept that counts
@@ -44,8 +44,8 @@ abbrev EndsNothing : Command → Type 0
 EndsNothing c = (state : ExchangeState) → ended_in state c ≡ None
 
 pub record IsOther (said : Result Request Fault) : Type 0 where
-  pub served : (number : ℕ) (state : ProposingState) (line : List ℕ) → served_line number state line said ≡ other_line number state said
-  pub reading : (number : ℕ) (exchange : ExchangeState) → reading_said number exchange said ≡ said_line number exchange said
+  pub served : (state : ProposingState) (line : List ℕ) → proposing_reply state line said ≡ other_reply state said
+  pub reading : (exchange : ExchangeState) → reading_reply exchange said ≡ said_reply exchange said
   pub says : ((c : Command) × (said ≡ Ok (asks.Command c)) × EndsNothing c) ⊎ ((c : Command) → said ≡ Ok (asks.Command c) → ⊥)
 
 module _ (P : Result Request Fault → Type 0)
@@ -56,9 +56,9 @@ module _ (P : Result Request Fault → Type 0)
     (positions : (account market : ℕ) → P (Ok (asks.Positions account market)))
     (trial : (request : TryRequest) → P (Ok (asks.Try request)))
     (other : (said : Result Request Fault) → IsOther said → P said) where
-  command : (c : Command) → ((number : ℕ) (state : ProposingState) (line : List ℕ) → served_line number state line (Ok (asks.Command c)) ≡ other_line number state (Ok (asks.Command c)))
+  command : (c : Command) → ((state : ProposingState) (line : List ℕ) → proposing_reply state line (Ok (asks.Command c)) ≡ other_reply state (Ok (asks.Command c)))
       → EndsNothing c → P (Ok (asks.Command c))
-  command c served none = other (Ok (asks.Command c)) (record { served = served; reading = λ number exchange. refl; says = inl (c, refl, none) })
+  command c served none = other (Ok (asks.Command c)) (record { served = served; reading = λ exchange. refl; says = inl (c, refl, none) })
 
   pub by_kind : (said : Result Request Fault) → P said
   by_kind (Ok (asks.Propose request)) = propose request
@@ -67,28 +67,28 @@ module _ (P : Result Request Fault → Type 0)
   by_kind (Ok (asks.Try request)) = trial request
   by_kind (Ok (asks.Command (Clear market budget))) = clear market budget
   by_kind (Ok (asks.Command (Settle market count prices))) = settle market count prices
-  by_kind (Ok (asks.Command (Open account))) = command (Open account) (λ number state line. refl) (λ state. refl)
-  by_kind (Ok (asks.Command (Deposit account amount))) = command (Deposit account amount) (λ number state line. refl) (λ state. refl)
-  by_kind (Ok (asks.Command (Withdraw account amount))) = command (Withdraw account amount) (λ number state line. refl) (λ state. refl)
-  by_kind (Ok (asks.Command (Market market underlyings))) = command (Market market underlyings) (λ number state line. refl) (λ state. refl)
+  by_kind (Ok (asks.Command (Open account))) = command (Open account) (λ state line. refl) (λ state. refl)
+  by_kind (Ok (asks.Command (Deposit account amount))) = command (Deposit account amount) (λ state line. refl) (λ state. refl)
+  by_kind (Ok (asks.Command (Withdraw account amount))) = command (Withdraw account amount) (λ state line. refl) (λ state. refl)
+  by_kind (Ok (asks.Command (Market market underlyings))) = command (Market market underlyings) (λ state line. refl) (λ state. refl)
   by_kind (Ok (asks.Command (Trade side account market kind strike price quantity count weights))) =
-      command (Trade side account market kind strike price quantity count weights) (λ number state line. refl) (λ state. refl)
+      command (Trade side account market kind strike price quantity count weights) (λ state line. refl) (λ state. refl)
   by_kind (Ok (asks.Command (Bundle side account market price quantity bundle))) =
-      command (Bundle side account market price quantity bundle) (λ number state line. refl) (λ state. refl)
-  by_kind (Ok (asks.Command (Cancel account order))) = command (Cancel account order) (λ number state line. refl) (λ state. refl)
-  by_kind (Ok (asks.Command (Balance account))) = command (Balance account) (λ number state line. refl) (λ state. refl)
+      command (Bundle side account market price quantity bundle) (λ state line. refl) (λ state. refl)
+  by_kind (Ok (asks.Command (Cancel account order))) = command (Cancel account order) (λ state line. refl) (λ state. refl)
+  by_kind (Ok (asks.Command (Balance account))) = command (Balance account) (λ state line. refl) (λ state. refl)
   by_kind (Ok (asks.Quote request)) =
-      other (Ok (asks.Quote request)) (record { served = λ number state line. refl; reading = λ number exchange. refl; says = inr (λ c e. cc) })
+      other (Ok (asks.Quote request)) (record { served = λ state line. refl; reading = λ exchange. refl; says = inr (λ c e. cc) })
   by_kind (Ok (asks.Price request)) =
-      other (Ok (asks.Price request)) (record { served = λ number state line. refl; reading = λ number exchange. refl; says = inr (λ c e. cc) })
+      other (Ok (asks.Price request)) (record { served = λ state line. refl; reading = λ exchange. refl; says = inr (λ c e. cc) })
   by_kind (Ok (asks.Margin request)) =
-      other (Ok (asks.Margin request)) (record { served = λ number state line. refl; reading = λ number exchange. refl; says = inr (λ c e. cc) })
+      other (Ok (asks.Margin request)) (record { served = λ state line. refl; reading = λ exchange. refl; says = inr (λ c e. cc) })
   by_kind (Ok (asks.Secure account)) =
-      other (Ok (asks.Secure account)) (record { served = λ number state line. refl; reading = λ number exchange. refl; says = inr (λ c e. cc) })
+      other (Ok (asks.Secure account)) (record { served = λ state line. refl; reading = λ exchange. refl; says = inr (λ c e. cc) })
   by_kind (Ok (asks.Need account)) =
-      other (Ok (asks.Need account)) (record { served = λ number state line. refl; reading = λ number exchange. refl; says = inr (λ c e. cc) })
+      other (Ok (asks.Need account)) (record { served = λ state line. refl; reading = λ exchange. refl; says = inr (λ c e. cc) })
   by_kind (Ok (asks.Close market)) =
-      other (Ok (asks.Close market)) (record { served = λ number state line. refl; reading = λ number exchange. refl; says = inr (λ c e. cc) })
+      other (Ok (asks.Close market)) (record { served = λ state line. refl; reading = λ exchange. refl; says = inr (λ c e. cc) })
   by_kind (Ok (asks.Reopen market)) =
-      other (Ok (asks.Reopen market)) (record { served = λ number state line. refl; reading = λ number exchange. refl; says = inr (λ c e. cc) })
-  by_kind (Err fault) = other (Err fault) (record { served = λ number state line. refl; reading = λ number exchange. refl; says = inr (λ c e. cc) })
+      other (Ok (asks.Reopen market)) (record { served = λ state line. refl; reading = λ exchange. refl; says = inr (λ c e. cc) })
+  by_kind (Err fault) = other (Err fault) (record { served = λ state line. refl; reading = λ exchange. refl; says = inr (λ c e. cc) })

@@ -29,7 +29,7 @@ use Rattle.proposal_lines.specs.ProposingState.{state_of}
 use Rattle.proposal_lines.specs.Proved.{AreProvedIn}
 use Rattle.proposal_lines.specs.Reads.{refused_by}
 use Rattle.proposal_lines.specs.declared.proposed.Proposed.{Proposed}
-use Rattle.proposal_lines.specs.declared.replies.ProposingReply.TheVariants.{Told}
+use Rattle.proposal_text.specs.declared.replies.ServedReply.TheVariants.{Told}
 use Rattle.proposal_lines.proofs.Kept.{offered_proved, with_proved}
 
 module _ (book : BookState) (is_kept : IsBookKept book) (kept : KeptProposals) (are : AreProvedIn book kept) (proposed : Proposed)

@@ -19,8 +19,9 @@ use Rattle.order_book.specs.Refusals.{live_refusals}
 use Rattle.proposal_text.specs.declared.replies.ProposalReply.{ProposalReply}
 use Rattle.proposals.specs.Laws.{as_proposal}
 use Rattle.proposal_lines.specs.declared.proposed.Proposed.{Proposed}
-use Rattle.proposal_lines.specs.declared.replies.ProposingReply.{ProposingReply}
-use Rattle.proposal_lines.specs.declared.replies.ProposingReply.TheVariants as reply_of
+use Rattle.proposal_text.specs.Pieces.{written_reply}
+use Rattle.proposal_text.specs.declared.replies.ServedReply.{ServedReply}
+use Rattle.proposal_text.specs.declared.replies.ServedReply.TheVariants as reply_of
 use Rattle.command_text.specs.declared.command.Body.{Body}
 use Rattle.command_text.specs.declared.command.Body.TheVariants as body
 use Rattle.command_text.specs.declared.command.Command.{Command}
@@ -56,7 +57,7 @@ use Rattle.reply_print.specs.declared.replies.Reply.{Reply}
 use Rattle.proposal_lines.specs.Clears.{better_in, bounded_effect, clear_reply, cleared_by, reference_in}
 use Rattle.proposal_lines.specs.KeptByMarket.{KeptProposals, after_end}
 use Rattle.proposal_lines.specs.Laws.{IsBetter, IsClearedAs, IsSound}
-use Rattle.proposal_lines.specs.Output.{other_line, proposing_line, served_line, settlement_reply, written_reply}
+use Rattle.proposal_lines.specs.Output.{other_reply, proposing_line, proposing_said, settlement_reply}
 use Rattle.proposal_lines.specs.Answers.{AreToldFor, BoundedAnswer, IsBesideFor, IsBesideProposals, IsBoundedFor, IsRepliedFor, IsTakenFor, IsToldFor, ProposalAnswer, TakenAnswer, TellsAsked, beside, bounded, replied, state_by, taken, told_text, told_texts}
 use Rattle.proposal_lines.specs.Promises.{KeepsProposalPromises, OutputsTellProposals, TellsBy, charged, replies_in}
 use Rattle.proposal_lines.specs.Proposed.{after_proposed, kept_by, offered, proposed_by, proposed_of, proposed_reply}
@@ -235,9 +236,9 @@ module _ (state : ProposingState) (line : InputLine) (sound : IsSound state) whe
   ended_by_run c says_it = ap (λ (b : Body). ended_by (reply_to state.exchange b).0) says_it ∙ ends_are_told state.exchange c
 
   -- a command that clears and settles nothing
-  command_told : (c : Command) → said_in SERVED line.bytes ≡ Ok (asks.Command c) → ended_in state.exchange c ≡ None → Told (other_line line.number state (Ok (asks.Command c)))
+  command_told : (c : Command) → said_in SERVED line.bytes ≡ Ok (asks.Command c) → ended_in state.exchange c ≡ None → Told (written_reply line.number (other_reply state (Ok (asks.Command c))))
   command_told c is none =
-      let now = other_line line.number state (Ok (asks.Command c)) in
+      let now = written_reply line.number (other_reply state (Ok (asks.Command c))) in
       let says = command_to_run SERVED line.bytes c is in
       elim (said_as_run line.number state.exchange (body_of_line line.bytes) (Ok (asks.Command c)) (λ other same. says ∙ ap body_of_said same)) [
         | inl is ↦
@@ -245,14 +246,14 @@ module _ (state : ProposingState) (line : InputLine) (sound : IsSound state) whe
         | inr is ↦ beside_told now (inl is.0) is.1 refl
       ]
 
-  other_told : (said : Result Request Fault) → IsOther said → said_in SERVED line.bytes ≡ said → Told (served_line line.number state line.bytes said)
-  other_told said other is = subst Told (sym (other.served line.number state line.bytes)) answered
+  other_told : (said : Result Request Fault) → IsOther said → said_in SERVED line.bytes ≡ said → Told (proposing_said line.number state line.bytes said)
+  other_told said other is = subst Told (ap (written_reply line.number) (sym (other.served state line.bytes))) answered
     where
-      answered : Told (other_line line.number state said)
+      answered : Told (written_reply line.number (other_reply state said))
       answered = elim other.says [
         | inl command ↦
-            subst (λ said. Told (other_line line.number state said)) (sym command.1) (command_told command.0 (is ∙ command.1) (command.2 state.exchange))
-        | inr none ↦ let told = said_beside line.number state.exchange said none in beside_told (other_line line.number state said) (inl told.0) told.1 refl
+            subst (λ said. Told (written_reply line.number (other_reply state said))) (sym command.1) (command_told command.0 (is ∙ command.1) (command.2 state.exchange))
+        | inr none ↦ let told = said_beside line.number state.exchange said none in beside_told (written_reply line.number (other_reply state said)) (inl told.0) told.1 refl
       ]
 
   settle_told : (market count : ℕ) (prices : List ℕ) → body_of_line line.bytes ≡ body.Command (Settle market count prices)
@@ -297,7 +298,7 @@ module _ (state : ProposingState) (line : InputLine) (sound : IsSound state) whe
 
   pub line_told : Told (proposing_line line.number state line.bytes)
   line_told =
-      by_kind (λ said. said_in SERVED line.bytes ≡ said → Told (served_line line.number state line.bytes said))
+      by_kind (λ said. said_in SERVED line.bytes ≡ said → Told (proposing_said line.number state line.bytes said))
       (λ request is. proposal_told request is (proposed_of line.bytes request) refl)
       (λ market budget is. clear_told market budget (command_to_run SERVED line.bytes (Clear market budget) is))
       (λ market count prices is. settle_told market count prices (command_to_run SERVED line.bytes (Settle market count prices) is))
@@ -306,7 +307,7 @@ module _ (state : ProposingState) (line : InputLine) (sound : IsSound state) whe
       (λ request is. told_beside (trial_reply state.exchange request) (trial_beside state.exchange request))
       other_told (said_in SERVED line.bytes) refl
     where
-      told_beside : (reply : ProposingReply) → IsBeside reply → Told (written_reply line.number (reply, state))
+      told_beside : (reply : ServedReply) → IsBeside reply → Told (written_reply line.number (reply, state))
       told_beside reply is = beside_told (written_reply line.number (reply, state)) (beside_text line.number reply is) refl refl
 
 -- ---- moves behind moves

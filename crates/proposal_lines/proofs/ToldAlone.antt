@@ -1,6 +1,6 @@
 -- What is told changes nothing, and what is not told is answered as a run answers it, beside
 -- margins.
-use Rattle.std.proofs.Common.{◌≡◌, ℕ, Bool, true, false, List, Option, Some, None, Result, Ok, Err, if◌then◌else◌, refl, sym, ap, ◌∙◌, true≢false}
+use Rattle.std.proofs.Common.{◌≡◌, ℕ, Bool, true, false, Option, Some, None, Result, Ok, Err, if◌then◌else◌, refl, sym, ap, ◌∙◌, true≢false}
 use Rattle.std.specs.Option.{option_map_or}
 use Rattle.command_text.specs.declared.asked.Fault.{Fault}
 use Rattle.command_text.specs.declared.asked.Fault.TheVariants.{Syntax, Range}
@@ -16,13 +16,13 @@ use Rattle.exchange_core.specs.declared.refusal.Refusal.{Refusal}
 use Rattle.exchange_core.specs.ExchangeState.{ExchangeState}
 use Rattle.exchange_core.specs.Refusals.{refusal_of}
 use Rattle.exchange_core.specs.Step.{balance_effect, refusal_effect}
-use Rattle.guarded_lines.specs.Output as guarded
 use Rattle.guarded_lines.specs.Replies.{guarded_reply_to}
-use Rattle.proposal_lines.specs.AllKinds.{said_line}
-use Rattle.proposal_lines.specs.Asked.{is_told, told_line}
-use Rattle.proposal_lines.specs.Output.{other_line}
+use Rattle.proposal_text.specs.declared.replies.ServedReply.{ServedReply}
+use Rattle.proposal_lines.specs.AllKinds.{said_reply}
+use Rattle.proposal_lines.specs.Asked.{is_told, told_reply}
+use Rattle.proposal_lines.specs.Output.{other_reply}
 use Rattle.proposal_lines.specs.ProposingState.{ProposingState}
-use Rattle.proposal_lines.specs.Reading.{reading_beside, reading_said}
+use Rattle.proposal_lines.specs.Reading.{reading_beside, reading_reply}
 
 -- ---- the kinds of what is told
 module _ (P : Result Request Fault → Type 0)
@@ -66,67 +66,67 @@ balance_leaves : (state : ExchangeState) (account : ℕ) (refused : Option Refus
 balance_leaves state account None = refl
 balance_leaves state account (Some first) = refl
 
-fault_leaves : (number : ℕ) (state : ExchangeState) (fault : Fault) → (reading_said number state (Err fault)).1 ≡ state
-fault_leaves number state Syntax = refl
-fault_leaves number state (Range field) = refl
+fault_leaves : (state : ExchangeState) (fault : Fault) → (reading_reply state (Err fault)).1 ≡ state
+fault_leaves state Syntax = refl
+fault_leaves state (Range field) = refl
 
-pub told_leaves : (number : ℕ) (state : ExchangeState) (said : Result Request Fault) → is_told said ≡ true → (reading_said number state said).1 ≡ state
-told_leaves number state said told =
-    by_told (λ said. (reading_said number state said).1 ≡ state) (λ account. balance_leaves state account (refusal_of state (Balance account))) (λ request. refl) (λ request. refl)
-    (λ request. refl) (λ market. refl) (λ account market. refl) (λ request. refl) (fault_leaves number state) said told
+pub told_leaves : (state : ExchangeState) (said : Result Request Fault) → is_told said ≡ true → (reading_reply state said).1 ≡ state
+told_leaves state said told =
+    by_told (λ said. (reading_reply state said).1 ≡ state) (λ account. balance_leaves state account (refusal_of state (Balance account))) (λ request. refl) (λ request. refl)
+    (λ request. refl) (λ market. refl) (λ account market. refl) (λ request. refl) (fault_leaves state) said told
 
 -- ---- what is not told
-pub untold_said : (number : ℕ) (state : ExchangeState) (said : Result Request Fault) → is_told said ≡ false → said_line number state said ≡ guarded.written_reply number (guarded_reply_to state said)
-untold_said number state (Ok (asks.Command c)) untold = refl
-untold_said number state (Ok (asks.Quote request)) untold = absurd (true≢false untold)
-untold_said number state (Ok (asks.Price request)) untold = absurd (true≢false untold)
-untold_said number state (Ok (asks.Margin request)) untold = refl
-untold_said number state (Ok (asks.Book market)) untold = refl
-untold_said number state (Ok (asks.Positions account market)) untold = refl
-untold_said number state (Ok (asks.Try request)) untold = refl
-untold_said number state (Ok (asks.Secure account)) untold = refl
-untold_said number state (Ok (asks.Need account)) untold = refl
-untold_said number state (Ok (asks.Close market)) untold = refl
-untold_said number state (Ok (asks.Reopen market)) untold = refl
-untold_said number state (Ok (asks.Propose request)) untold = refl
-untold_said number state (Err fault) untold = refl
+pub untold_said : (state : ExchangeState) (said : Result Request Fault) → is_told said ≡ false → said_reply state said ≡ guarded_reply_to state said
+untold_said state (Ok (asks.Command c)) untold = refl
+untold_said state (Ok (asks.Quote request)) untold = absurd (true≢false untold)
+untold_said state (Ok (asks.Price request)) untold = absurd (true≢false untold)
+untold_said state (Ok (asks.Margin request)) untold = refl
+untold_said state (Ok (asks.Book market)) untold = refl
+untold_said state (Ok (asks.Positions account market)) untold = refl
+untold_said state (Ok (asks.Try request)) untold = refl
+untold_said state (Ok (asks.Secure account)) untold = refl
+untold_said state (Ok (asks.Need account)) untold = refl
+untold_said state (Ok (asks.Close market)) untold = refl
+untold_said state (Ok (asks.Reopen market)) untold = refl
+untold_said state (Ok (asks.Propose request)) untold = refl
+untold_said state (Err fault) untold = refl
 
-untold_reading : (number : ℕ) (state : ExchangeState) (said : Result Request Fault) → is_told said ≡ false → reading_said number state said ≡ said_line number state said
-untold_reading number state (Ok (asks.Command c)) untold = refl
-untold_reading number state (Ok (asks.Quote request)) untold = refl
-untold_reading number state (Ok (asks.Price request)) untold = refl
-untold_reading number state (Ok (asks.Margin request)) untold = refl
-untold_reading number state (Ok (asks.Book market)) untold = absurd (true≢false untold)
-untold_reading number state (Ok (asks.Positions account market)) untold = absurd (true≢false untold)
-untold_reading number state (Ok (asks.Try request)) untold = absurd (true≢false untold)
-untold_reading number state (Ok (asks.Secure account)) untold = refl
-untold_reading number state (Ok (asks.Need account)) untold = refl
-untold_reading number state (Ok (asks.Close market)) untold = refl
-untold_reading number state (Ok (asks.Reopen market)) untold = refl
-untold_reading number state (Ok (asks.Propose request)) untold = refl
-untold_reading number state (Err fault) untold = refl
+untold_reading : (state : ExchangeState) (said : Result Request Fault) → is_told said ≡ false → reading_reply state said ≡ said_reply state said
+untold_reading state (Ok (asks.Command c)) untold = refl
+untold_reading state (Ok (asks.Quote request)) untold = refl
+untold_reading state (Ok (asks.Price request)) untold = refl
+untold_reading state (Ok (asks.Margin request)) untold = refl
+untold_reading state (Ok (asks.Book market)) untold = absurd (true≢false untold)
+untold_reading state (Ok (asks.Positions account market)) untold = absurd (true≢false untold)
+untold_reading state (Ok (asks.Try request)) untold = absurd (true≢false untold)
+untold_reading state (Ok (asks.Secure account)) untold = refl
+untold_reading state (Ok (asks.Need account)) untold = refl
+untold_reading state (Ok (asks.Close market)) untold = refl
+untold_reading state (Ok (asks.Reopen market)) untold = refl
+untold_reading state (Ok (asks.Propose request)) untold = refl
+untold_reading state (Err fault) untold = refl
 
--- ---- either, as it is written for a line
--- the text that is told, and all as it is
-pub written_told : (number : ℕ) (state : ProposingState) (said : Result Request Fault) (text : List ℕ) → Some text ≡ told_line number state.exchange said
-    → (text, state) ≡ reading_beside number state said
-written_told number state said text is = by (is_told said) refl is
+-- ---- either, beside what is kept of proposals
+-- what is told, and all as it is
+pub told_beside : (state : ProposingState) (said : Result Request Fault) (reply : ServedReply) → Some reply ≡ told_reply state.exchange said
+    → (reply, state) ≡ reading_beside state said
+told_beside state said reply is = by (is_told said) refl is
   where
-    now : List ℕ × ExchangeState
-    now = reading_said number state.exchange said
+    now : ServedReply × ExchangeState
+    now = reading_reply state.exchange said
 
-    by : (told : Bool) → is_told said ≡ told → Some text ≡ (if told then Some now.0 else None) → (text, state) ≡ reading_beside number state said
+    by : (told : Bool) → is_told said ≡ told → Some reply ≡ (if told then Some now.0 else None) → (reply, state) ≡ reading_beside state said
     by true told is =
-        let same : text ≡ now.0 = cc in
-        ap (λ t. (t, state)) same ∙ ap (λ (e : ExchangeState). (now.0, record state { exchange = e })) (sym (told_leaves number state.exchange said told))
+        let same : reply ≡ now.0 = cc in
+        ap (λ r. (r, state)) same ∙ ap (λ (e : ExchangeState). (now.0, record state { exchange = e })) (sym (told_leaves state.exchange said told))
     by false told is = cc
 
-pub not_told : (number : ℕ) (state : ExchangeState) (said : Result Request Fault) → None ≡ told_line number state said → is_told said ≡ false
-not_told number state said is = by (is_told said) is
+pub not_told : (state : ExchangeState) (said : Result Request Fault) → None ≡ told_reply state said → is_told said ≡ false
+not_told state said is = by (is_told said) is
   where
-    by : (told : Bool) → None ≡ (if told then Some (reading_said number state said).0 else None) → told ≡ false
+    by : (told : Bool) → None ≡ (if told then Some (reading_reply state said).0 else None) → told ≡ false
     by true is = cc
     by false is = refl
 
-pub other_beside : (number : ℕ) (state : ProposingState) (said : Result Request Fault) → is_told said ≡ false → other_line number state said ≡ reading_beside number state said
-other_beside number state said untold = ap (λ (now : List ℕ × ExchangeState). (now.0, record state { exchange = now.1 })) (sym (untold_reading number state.exchange said untold))
+pub other_beside : (state : ProposingState) (said : Result Request Fault) → is_told said ≡ false → other_reply state said ≡ reading_beside state said
+other_beside state said untold = ap (λ (now : ServedReply × ExchangeState). (now.0, record state { exchange = now.1 })) (sym (untold_reading state.exchange said untold))

@@ -18,18 +18,20 @@ use Rattle.exchange_core.specs.ExchangeState.{ExchangeState, empty_exchange}
 use Rattle.exchange_core.specs.Refusals.{refusal_of}
 use Rattle.exchange_core.specs.Step.{clear_effect, refusal_effect, step}
 use Rattle.exchange_lines.specs.LineSteps.{InputLine, input_line}
-use Rattle.exchange_lines.specs.Output.{written_line}
 use Rattle.live_lines.specs.Output.{places_output}
 use Rattle.proposal_text.specs.declared.replies.StopReason.{StopReason}
 use Rattle.reply_print.specs.declared.replies.Reply.{Reply}
-use Rattle.proposal_lines.specs.AllKinds.{said_line}
+use Rattle.proposal_lines.specs.AllKinds.{said_reply}
 use Rattle.proposal_lines.specs.Clears.{better_in, clear_reply, cleared_by, reference_in}
 use Rattle.proposal_lines.specs.KeptByMarket.{after_end, stop_of}
-use Rattle.proposal_lines.specs.Output.{proposing_line, served_line, settlement_reply, written_reply}
-use Rattle.proposal_lines.specs.Promises.{ProposesNothing, WithoutProposals, reading_line, reading_said}
+use Rattle.proposal_lines.specs.Output.{proposing_line, proposing_reply, settlement_reply}
+use Rattle.proposal_lines.specs.Promises.{ProposesNothing, WithoutProposals, reading_line}
+use Rattle.proposal_lines.specs.Reading.{reading_reply}
 use Rattle.proposal_lines.specs.ProposingState.{ProposingState, state_of}
 use Rattle.proposal_lines.specs.Reads.{refused_by}
-use Rattle.proposal_lines.specs.declared.replies.ProposingReply.TheVariants.{Plain}
+use Rattle.proposal_text.specs.Pieces.{written_reply}
+use Rattle.proposal_text.specs.declared.replies.ServedReply.{ServedReply}
+use Rattle.proposal_text.specs.declared.replies.ServedReply.TheVariants.{Plain}
 use Rattle.proposal_lines.proofs.Clearing.{bounded_where}
 use Rattle.proposal_lines.proofs.SaidKinds.{by_kind}
 
@@ -37,19 +39,23 @@ use Rattle.proposal_lines.proofs.SaidKinds.{by_kind}
 abbrev alone : ExchangeState → ProposingState
 alone exchange = state_of exchange []
 
--- what is written, and the exchange after it
-abbrev with_none : List ℕ × ExchangeState → List ℕ × ProposingState
+-- what is answered, and the exchange after it
+abbrev with_none : ServedReply × ExchangeState → ServedReply × ProposingState
 with_none now = (now.0, alone now.1)
+
+-- as a run answers it
+abbrev as_run : Reply × ExchangeState → ServedReply × ProposingState
+as_run now = (Plain now.0, alone now.1)
 
 none_better : (outcome : Outcome) (run : Option StopReason) → bounded_where outcome run None ≡ None
 none_better outcome None = refl
 none_better outcome (Some run) = refl
 
 -- a clear
-clear_alone : (number : ℕ) (exchange : ExchangeState) (market budget : ℕ)
-    → written_reply number (clear_reply (alone exchange) market budget) ≡ with_none (said_line number exchange (Ok (asks.Command (Clear market budget))))
-clear_alone number exchange market budget =
-    ap (λ better. written_reply number (option_map_or (λ first. (refused_by first, alone exchange)) (refusal_of exchange (Clear market budget)) (cleared_by (alone exchange) market budget better))) nothing
+clear_alone : (exchange : ExchangeState) (market budget : ℕ)
+    → clear_reply (alone exchange) market budget ≡ with_none (said_reply exchange (Ok (asks.Command (Clear market budget))))
+clear_alone exchange market budget =
+    ap (λ better. option_map_or (λ first. (refused_by first, alone exchange)) (refusal_of exchange (Clear market budget)) (cleared_by (alone exchange) market budget better)) nothing
     ∙ by (refusal_of exchange (Clear market budget))
   where
     outcome : Outcome
@@ -58,38 +64,38 @@ clear_alone number exchange market budget =
     nothing : better_in (alone exchange) market budget ≡ None
     nothing = none_better outcome (stop_of outcome.mark)
 
-    by : (r : Option Refusal) → written_reply number (option_map_or (λ first. (refused_by first, alone exchange)) r (cleared_by (alone exchange) market budget None))
-        ≡ with_none (written_line number (option_map_or (refusal_effect exchange) r (clear_effect exchange market budget)))
+    by : (r : Option Refusal) → option_map_or (λ first. (refused_by first, alone exchange)) r (cleared_by (alone exchange) market budget None)
+        ≡ as_run (option_map_or (refusal_effect exchange) r (clear_effect exchange market budget))
     by None = refl
     by (Some first) = refl
 
 -- a settlement
-settle_alone : (number : ℕ) (exchange : ExchangeState) (market count : ℕ) (prices : List ℕ)
-    → written_reply number (settlement_reply (alone exchange) market count prices) ≡ with_none (said_line number exchange (Ok (asks.Command (Settle market count prices))))
-settle_alone number exchange market count prices = by (ended_in exchange (Settle market count prices))
+settle_alone : (exchange : ExchangeState) (market count : ℕ) (prices : List ℕ)
+    → settlement_reply (alone exchange) market count prices ≡ with_none (said_reply exchange (Ok (asks.Command (Settle market count prices))))
+settle_alone exchange market count prices = by (ended_in exchange (Settle market count prices))
   where
     now : Reply × ExchangeState
     now = step exchange (Settle market count prices)
 
-    by : (ended : Option ℕ) → written_reply number (Plain now.0, state_of now.1 (after_end [] ended)) ≡ with_none (written_line number now)
+    by : (ended : Option ℕ) → (Plain now.0, state_of now.1 (after_end [] ended)) ≡ as_run now
     by None = refl
     by (Some ended) = refl
 
 -- what is said, which is no proposal
-said_alone : (number : ℕ) (exchange : ExchangeState) (line : List ℕ) (said : Result Request Fault) → ((request : ProposeRequest) → said ≡ Ok (asks.Propose request) → ⊥)
-    → served_line number (alone exchange) line said ≡ with_none (reading_said number exchange said)
-said_alone number exchange line =
-    by_kind (λ said. ((request : ProposeRequest) → said ≡ Ok (asks.Propose request) → ⊥) → served_line number (alone exchange) line said ≡ with_none (reading_said number exchange said))
+said_alone : (exchange : ExchangeState) (line : List ℕ) (said : Result Request Fault) → ((request : ProposeRequest) → said ≡ Ok (asks.Propose request) → ⊥)
+    → proposing_reply (alone exchange) line said ≡ with_none (reading_reply exchange said)
+said_alone exchange line =
+    by_kind (λ said. ((request : ProposeRequest) → said ≡ Ok (asks.Propose request) → ⊥) → proposing_reply (alone exchange) line said ≡ with_none (reading_reply exchange said))
     (λ request none. absurd (none request refl))
-    (λ market budget none. clear_alone number exchange market budget)
-    (λ market count prices none. settle_alone number exchange market count prices)
+    (λ market budget none. clear_alone exchange market budget)
+    (λ market count prices none. settle_alone exchange market count prices)
     (λ market none. refl)
     (λ account market none. refl)
     (λ request none. refl)
-    (λ said other none. other.served number (alone exchange) line ∙ ap with_none (sym (other.reading number exchange)))
+    (λ said other none. other.served (alone exchange) line ∙ ap with_none (sym (other.reading exchange)))
 
-line_alone : (exchange : ExchangeState) (line : InputLine) → ProposesNothing line → proposing_line line.number (alone exchange) line.bytes ≡ with_none (reading_line line.number exchange line.bytes)
-line_alone exchange line none = said_alone line.number exchange line.bytes (said_in SERVED line.bytes) none
+line_alone : (exchange : ExchangeState) (line : InputLine) → ProposesNothing line → proposing_line line.number (alone exchange) line.bytes ≡ (let now = reading_line line.number exchange line.bytes in (now.0, alone now.1))
+line_alone exchange line none = ap (written_reply line.number) (said_alone exchange line.bytes (said_in SERVED line.bytes) none)
 
 places_alone : (input : List ℕ) (places : List RawLine) (exchange : ExchangeState) → All ProposesNothing (map (input_line input) places)
     → places_output proposing_line input (alone exchange) places ≡ places_output reading_line input exchange places

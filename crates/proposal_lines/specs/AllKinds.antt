@@ -1,4 +1,4 @@
--- What is written for what a line says, of any kind, where nothing is read and no proposals are
+-- What is answered to what a line says, of any kind, where nothing is read and no proposals are
 -- taken.
 use Rattle.std.specs.Prelude.{ℕ, ◌⊎◌, List, Result, Ok}
 use Rattle.command_text.specs.declared.asked.Fault.{Fault}
@@ -8,18 +8,21 @@ use Rattle.command_text.specs.declared.words.LineWord.{LineWord}
 use Rattle.command_text.specs.Said.{said_in}
 use Rattle.exchange_core.specs.ExchangeState.{ExchangeState}
 use Rattle.exchange_lines.specs.LineSteps.{LineStep}
-use Rattle.guarded_lines.specs.Output as guarded
 use Rattle.guarded_lines.specs.Output.{IsMarginText}
 use Rattle.guarded_lines.specs.Replies.{guarded_reply_to}
-use Rattle.quote_lines.specs.Output as quotes
 use Rattle.quote_lines.specs.Output.{IsPriceText, IsQuoteText}
+use Rattle.proposal_text.specs.Pieces.{written_reply}
+use Rattle.proposal_text.specs.declared.replies.ServedReply.{ServedReply}
 use Rattle.quote_lines.specs.Replies.{quotes_reply_to}
 
 -- a quote and prices as `quotes` answers them, and all else as `guarded`
+abbrev pub said_reply : ExchangeState → Result Request Fault → ServedReply × ExchangeState
+said_reply state (Ok (asks.Quote request)) = quotes_reply_to state (Ok (asks.Quote request))
+said_reply state (Ok (asks.Price request)) = quotes_reply_to state (Ok (asks.Price request))
+said_reply state said = guarded_reply_to state said
+
 abbrev pub said_line : ℕ → ExchangeState → Result Request Fault → List ℕ × ExchangeState
-said_line number state (Ok (asks.Quote request)) = quotes.written_reply number (quotes_reply_to state (Ok (asks.Quote request)))
-said_line number state (Ok (asks.Price request)) = quotes.written_reply number (quotes_reply_to state (Ok (asks.Price request)))
-said_line number state said = guarded.written_reply number (guarded_reply_to state said)
+said_line number state said = written_reply number (said_reply state said)
 
 -- what is written for a line of these bytes, where these words may begin it, and the state after it
 abbrev pub all_line : List LineWord → LineStep

@@ -96,7 +96,12 @@ TakesNothing (told.Closed market orders) = ⊤
 TakesNothing (told.Reopened market) = ⊤
 TakesNothing told.MarketIsClosed = ⊤
 TakesNothing told.MarketIsOpen = ⊤
-TakesNothing (told.Account of_account) = ⊤
+TakesNothing (told.Secured account need) = ⊤
+TakesNothing (told.Needs needed) = ⊤
+TakesNothing (told.Uncovered need) = ⊤
+TakesNothing (told.Quoted market bid ask) = ⊤
+TakesNothing (told.Priced market quantity ask bid) = ⊤
+TakesNothing (told.Margin account market margin) = ⊤
 TakesNothing (told.Tried market trial) = ⊤
 TakesNothing (told.Barred bar) = ⊤
 

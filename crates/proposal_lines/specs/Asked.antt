@@ -7,7 +7,8 @@ use Rattle.command_text.specs.declared.requests.Request.{Request}
 use Rattle.command_text.specs.declared.requests.Request.TheVariants.{Need, Propose}
 use Rattle.exchange_core.specs.ExchangeState.{ExchangeState}
 use Rattle.proposal_lines.specs.Proposed.{proposed_of}
-use Rattle.proposal_lines.specs.Reading.{reading_said}
+use Rattle.proposal_text.specs.declared.replies.ServedReply.{ServedReply}
+use Rattle.proposal_lines.specs.Reading.{reading_reply}
 use Rattle.proposal_lines.specs.declared.proposed.Proposed.{Proposed}
 
 -- by the exchange alone; what an account needs is told where accounts are secured
@@ -16,9 +17,9 @@ is_told (Ok (Need account)) = false
 is_told (Ok request) = may_be_asked request
 is_told (Err fault) = true
 
--- what is written for it
-abbrev pub told_line : ℕ → ExchangeState → Result Request Fault → Option (List ℕ)
-told_line number exchange said = if is_told said then Some (reading_said number exchange said).0 else None
+-- the reply to it
+abbrev pub told_reply : ExchangeState → Result Request Fault → Option ServedReply
+told_reply exchange said = if is_told said then Some (reading_reply exchange said).0 else None
 
 -- a line proposes where its text is a proposal, and else has a fault
 abbrev pub if_proposed : ProposeRequest → Result Proposed Fault → Result Request Fault

@@ -13,7 +13,6 @@ use Rattle.form.specs.declared.orders.Batch.{Batch}
 use Rattle.frac.specs.Value.{fraction_of}
 use Rattle.order_book.specs.Numbers.{numbers_of}
 use Rattle.proposal_text.specs.declared.replies.BoundedOutcome.{BoundedOutcome}
-use Rattle.proposal_text.specs.declared.replies.AccountReply.TheVariants as account
 use Rattle.proposal_text.specs.declared.replies.ProposalReply.TheVariants as told
 use Rattle.proposals.specs.declared.best.Best.{Best}
 use Rattle.proposal_lines.specs.Clears.{better_in, reference_in}
@@ -22,8 +21,8 @@ use Rattle.proposal_lines.specs.Proposed.{proposed_reply}
 use Rattle.proposal_lines.specs.ProposingState.{ProposingState}
 use Rattle.proposal_lines.specs.Proved.{AreProvedIn}
 use Rattle.proposal_lines.specs.declared.proposed.Proposed.{Proposed}
-use Rattle.proposal_lines.specs.declared.replies.ProposingReply.{ProposingReply}
-use Rattle.proposal_lines.specs.declared.replies.ProposingReply.TheVariants.{Plain, Told}
+use Rattle.proposal_text.specs.declared.replies.ServedReply.{ServedReply}
+use Rattle.proposal_text.specs.declared.replies.ServedReply.TheVariants.{Plain, Told}
 
 -- a state that an exchange which takes proposals may be in
 pub record IsSound (state : ProposingState) : Type 0 where
@@ -72,7 +71,7 @@ abbrev pub cleared_surplus : ProposingState → ℕ → ℕ → Fraction
 cleared_surplus state market budget = charged_surplus (reference_in state market budget) (better_in state market budget)
 
 -- a reply to a proposal that is not taken in
-abbrev pub IsRefused : ProposingReply → Type 0
+abbrev pub IsRefused : ServedReply → Type 0
 IsRefused (Plain reply) = ⊤
 IsRefused (Told told.Stale) = ⊤
 IsRefused (Told (told.Unproved failed)) = ⊤
@@ -84,9 +83,12 @@ IsRefused (Told (told.Closed market orders)) = ⊥
 IsRefused (Told (told.Reopened market)) = ⊥
 IsRefused (Told told.MarketIsClosed) = ⊤
 IsRefused (Told told.MarketIsOpen) = ⊤
-IsRefused (Told (told.Account (account.Secured holder amount))) = ⊥
-IsRefused (Told (told.Account (account.Needs needed))) = ⊥
-IsRefused (Told (told.Account (account.Uncovered need))) = ⊤
+IsRefused (Told (told.Secured account need)) = ⊥
+IsRefused (Told (told.Needs needed)) = ⊥
+IsRefused (Told (told.Uncovered need)) = ⊤
+IsRefused (Told (told.Quoted market bid ask)) = ⊥
+IsRefused (Told (told.Priced market quantity ask bid)) = ⊥
+IsRefused (Told (told.Margin account market margin)) = ⊥
 IsRefused (Told (told.Tried market trial)) = ⊥
 IsRefused (Told (told.Barred bar)) = ⊤
 

@@ -31,8 +31,8 @@ use Rattle.proposal_lines.specs.KeptByMarket.{KeptProposals, kept_in, with_kept}
 use Rattle.proposal_lines.specs.ProposingState.{ProposingState}
 use Rattle.proposal_lines.specs.Reads.{refused_by, refused_by_fault}
 use Rattle.proposal_lines.specs.declared.proposed.Proposed.{Proposed}
-use Rattle.proposal_lines.specs.declared.replies.ProposingReply.{ProposingReply}
-use Rattle.proposal_lines.specs.declared.replies.ProposingReply.TheVariants.{Told}
+use Rattle.proposal_text.specs.declared.replies.ServedReply.{ServedReply}
+use Rattle.proposal_text.specs.declared.replies.ServedReply.TheVariants.{Told}
 
 -- ---- what is proposed
 -- the proposal is the text from a place of the line on; a market out of its range is told only where
@@ -76,12 +76,12 @@ offered kept proposed batch =
     then judged_effect kept proposed (proposal_bound limit batch proposed.submission.proposal)
     else stale_effect kept
 
-abbrev pub proposed_by : ProposingState → Proposed → ProposingReply × ProposingState
+abbrev pub proposed_by : ProposingState → Proposed → ServedReply × ProposingState
 proposed_by state proposed =
     let now = offered state.kept proposed (batch_in state.exchange proposed.market) in (Told now.0, record state { kept = now.1 })
 
 -- the first refusal of a proposal by its market, or what becomes of it; the exchange stays as it is
-abbrev pub proposed_reply : ProposingState → Result Proposed Fault → ProposingReply × ProposingState
+abbrev pub proposed_reply : ProposingState → Result Proposed Fault → ServedReply × ProposingState
 proposed_reply state (Err fault) = (refused_by_fault fault, state)
 proposed_reply state (Ok proposed) =
     option_map_or (λ first. (refused_by first, state)) (first_of (by_book (live_refusals state.exchange.book proposed.market)))

@@ -9,8 +9,8 @@ use Rattle.quote_lines.specs.Refusals.{quote_refusals}
 use Rattle.quote_lines.specs.Replies.{tried_for}
 use Rattle.proposal_lines.specs.KeptByMarket.{stop_of}
 use Rattle.proposal_lines.specs.Reads.{unless_refused}
-use Rattle.proposal_lines.specs.declared.replies.ProposingReply.{ProposingReply}
-use Rattle.proposal_lines.specs.declared.replies.ProposingReply.TheVariants.{Told}
+use Rattle.proposal_text.specs.declared.replies.ServedReply.{ServedReply}
+use Rattle.proposal_text.specs.declared.replies.ServedReply.TheVariants.{Told}
 
 -- its fill, and the surplus and the mark of the outcome
 abbrev pub trial_of : Tried → Trial
@@ -18,7 +18,7 @@ trial_of tried = record { fill = tried.fill; surplus = tried.outcome.claim.surpl
 
 -- the first refusal that is met, or what a clear of the live orders with this one at their end would
 -- tell of it
-abbrev pub trial_reply : ExchangeState → TryRequest → ProposingReply
+abbrev pub trial_reply : ExchangeState → TryRequest → ServedReply
 trial_reply state request =
     unless_refused (quote_refusals state.book request.quote)
     (Told (told.Tried request.quote.market (trial_of (tried_for (batch_in state request.quote.market) request))))

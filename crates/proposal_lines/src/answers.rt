@@ -9,17 +9,17 @@ ghost use Rattle.live_lines.specs.Answering.{by_step};
 ghost use Rattle.order_book.specs.Book.{batch_of, market_of};
 ghost use Rattle.proposal_lines.specs.Asked.{is_told};
 ghost use Rattle.proposal_lines.specs.Clears.{clear_reply};
-ghost use Rattle.proposal_lines.specs.Output.{other_line, proposing_line, served_line, settlement_reply, withdrawal_line, withdrawal_reply, written_reply};
+ghost use Rattle.proposal_lines.specs.Output.{other_reply, proposing_line, proposing_reply, settlement_reply, withdrawal_reply};
 ghost use Rattle.proposal_lines.specs.Proposed.{proposed_by, proposed_of, proposed_reply};
 ghost use Rattle.proposal_lines.specs.ProposingState.{empty_state};
 ghost use Rattle.proposal_lines.specs.Reading.{reading_beside};
 
-use crate::asked::tell;
+use crate::asked::told_reply;
 use crate::clears::clear;
 use crate::judging::judge;
 use crate::kept_by_market::KeptByMarket;
 use crate::proposed::{Proposed, proposed_of};
-use crate::replies::{ProposingReply, print_line, refused, refused_by_fault};
+use crate::replies::{refused, refused_by_fault};
 use auction_phases::ended_in;
 use command_text::asked::Fault;
 use command_text::words::SERVED;
@@ -27,6 +27,7 @@ use command_text::{Command, ProposeRequest, Request, read_line};
 use exchange_core::Exchange;
 use form::Batch;
 use live_lines::{LineAnswers, LineSteps};
+use proposal_text::{ServedReply, print_line};
 use std::alloc::{AllocError, Global};
 use std::marker::Model;
 
@@ -69,7 +70,7 @@ impl ProposalLines {
         &mut self,
         alloc: Global,
         said: Result<Proposed, Fault>,
-    ) -> Result<ProposingReply, AllocError>
+    ) -> Result<ServedReply, AllocError>
         ensures { IfOk result (λ reply. (reply, self.new) ≡ proposed_reply self.old said) }
     {
         let proposed = match said {
@@ -88,7 +89,7 @@ impl ProposalLines {
         alloc: Global,
         proposed: Proposed,
         batch: &Batch,
-    ) -> Result<ProposingReply, AllocError>
+    ) -> Result<ServedReply, AllocError>
         requires kept { IsKept self.old.exchange }
         requires batch { option_map batch_of (market_of self.old.exchange.book proposed.market)
             ≡ Some batch.now }
@@ -96,7 +97,7 @@ impl ProposalLines {
         ensures { IfOk result (λ reply. (reply, self.new) ≡ proposed_by self.old proposed) }
     {
         match judge(alloc, &mut self.kept, proposed, batch) {
-            Ok(reply) => Ok(ProposingReply::Told(reply)),
+            Ok(reply) => Ok(ServedReply::Told(reply)),
             Err(error) => {
                 self.kept.clear();
                 Err(error)
@@ -104,12 +105,7 @@ impl ProposalLines {
         }
     }
 
-    fn clear(
-        &mut self,
-        alloc: Global,
-        market: u32,
-        budget: u32,
-    ) -> Result<ProposingReply, AllocError>
+    fn clear(&mut self, alloc: Global, market: u32, budget: u32) -> Result<ServedReply, AllocError>
         requires { IsBudget budget }
         ensures { IfOk result (λ reply. (reply, self.new) ≡ clear_reply self.old market budget) }
     {
@@ -119,37 +115,19 @@ impl ProposalLines {
         }
     }
 
-    // The answer to a line that proposes this.
-    fn answer_proposal(
+    // The reply to a line that proposes this.
+    fn proposal_reply(
         &mut self,
         alloc: Global,
-        number: u32,
         line: &[u8],
         request: ProposeRequest,
-    ) -> Result<Vec<u8>, AllocError>
+    ) -> Result<ServedReply, AllocError>
         requires { request.from ≤ length line.now }
-        ensures { IfOk result (λ text. (text.items, self.new)
-            ≡ written_reply number (proposed_reply self.old (proposed_of line.now request))) }
+        ensures { IfOk result (λ reply. (reply, self.new)
+            ≡ proposed_reply self.old (proposed_of line.now request)) }
     {
         let said = proposed_of(alloc, line, request)?;
-        let reply = self.propose(alloc, said)?;
-        print_line(alloc, number, &reply)
-    }
-
-    // The answer to a line that clears a market.
-    fn answer_clear(
-        &mut self,
-        alloc: Global,
-        number: u32,
-        market: u32,
-        budget: u32,
-    ) -> Result<Vec<u8>, AllocError>
-        requires { IsBudget budget }
-        ensures { IfOk result (λ text. (text.items, self.new)
-            ≡ written_reply number (clear_reply self.old market budget)) }
-    {
-        let reply = self.clear(alloc, market, budget)?;
-        print_line(alloc, number, &reply)
+        self.propose(alloc, said)
     }
 
     // Settles a market, where nothing refuses it, and lets go of what is kept for it.
@@ -158,7 +136,7 @@ impl ProposalLines {
         market: u32,
         count: u8,
         prices: [u32; 8],
-    ) -> Result<ProposingReply, AllocError>
+    ) -> Result<ServedReply, AllocError>
         requires { IsWithin (Command.Settle market count prices) }
         ensures { IfOk result (λ reply.
             (reply, self.new) ≡ settlement_reply self.old market count prices) }
@@ -171,91 +149,49 @@ impl ProposalLines {
         let ended = ended_in(&self.exchange, &command);
         let reply = self.exchange.step(&command)?;
         self.kept.after_end(ended);
-        Ok(ProposingReply::Plain(reply))
+        Ok(ServedReply::Plain(reply))
     }
 
-    // The answer to a line that settles a market.
-    fn answer_settlement(
+    // The reply of an exchange that takes no proposals.
+    fn other_reply(
         &mut self,
         alloc: Global,
-        number: u32,
-        market: u32,
-        count: u8,
-        prices: [u32; 8],
-    ) -> Result<Vec<u8>, AllocError>
-        requires { IsWithin (Command.Settle market count prices) }
-        ensures { IfOk result (λ text. (text.items, self.new)
-            ≡ written_reply number (settlement_reply self.old market count prices)) }
-    {
-        let reply = self.settle(market, count, prices)?;
-        print_line(alloc, number, &reply)
-    }
-
-    // The answer of an exchange that takes no proposals. Where memory is refused nothing is kept.
-    fn answer_other(
-        &mut self,
-        alloc: Global,
-        number: u32,
         said: Result<Request, Fault>,
-    ) -> Result<Vec<u8>, AllocError>
+    ) -> Result<ServedReply, AllocError>
         requires within { IfOk said RequestIsWithin }
         requires untold { is_told said ≡ false }
-        ensures { IfOk result (λ text.
-            (text.items, self.new) ≡ other_line number self.old said) }
+        ensures { IfOk result (λ reply. (reply, self.new) ≡ other_reply self.old said) }
     {
-        match guarded_lines::answer_said(alloc, &mut self.exchange, number, said) {
-            Ok(text) => Ok(text),
-            Err(error) => {
-                self.kept.clear();
-                Err(error)
-            }
-        }
+        let reply = guarded_lines::reply_to(alloc, &mut self.exchange, said)?;
+        Ok(reply)
     }
 
-    // What is told, where a line changes nothing, or the answer of an exchange that takes no
+    // What is told, where a line changes nothing, or the reply of an exchange that takes no
     // proposals.
-    fn answer_beside(
+    fn reply_beside(
         &mut self,
         alloc: Global,
-        number: u32,
         said: Result<Request, Fault>,
-    ) -> Result<Vec<u8>, AllocError>
+    ) -> Result<ServedReply, AllocError>
         requires { IfOk said RequestIsWithin }
-        ensures { IfOk result (λ text.
-            (text.items, self.new) ≡ reading_beside number self.old said) }
+        ensures { IfOk result (λ reply. (reply, self.new) ≡ reading_beside self.old said) }
     {
-        match tell(alloc, &self.exchange, number, &said)? {
-            Some(text) => Ok(text),
-            None => self.answer_other(alloc, number, said),
+        match told_reply(alloc, &self.exchange, &said)? {
+            Some(reply) => Ok(reply),
+            None => self.other_reply(alloc, said),
         }
     }
 
-    fn withdraw(&mut self, account: u32, amount: u64) -> Result<ProposingReply, AllocError>
+    /// The reply of a run to a withdrawal, whatever the margins of its account: of whoever keeps
+    /// withdrawals by another rule. The only error is want of memory.
+    pub fn withdraw(&mut self, account: u32, amount: u64) -> Result<ServedReply, AllocError>
         requires account { IsAccount account }
         requires amount { IsAmount amount }
         ensures { IfOk result (λ reply.
             (reply, self.new) ≡ withdrawal_reply self.old account amount) }
     {
         let reply = self.exchange.step(&Command::Withdraw { account, amount })?;
-        Ok(ProposingReply::Plain(reply))
-    }
-
-    /// The answer of a run to a withdrawal, whatever the margins of its account: of whoever keeps
-    /// withdrawals by another rule. The only error is want of memory.
-    pub fn answer_withdrawal(
-        &mut self,
-        alloc: Global,
-        number: u32,
-        account: u32,
-        amount: u64,
-    ) -> Result<Vec<u8>, AllocError>
-        requires account { IsAccount account }
-        requires amount { IsAmount amount }
-        ensures { IfOk result (λ text.
-            (text.items, self.new) ≡ withdrawal_line number self.old account amount) }
-    {
-        let reply = self.withdraw(account, amount)?;
-        print_line(alloc, number, &reply)
+        Ok(ServedReply::Plain(reply))
     }
 
     /// The exchange, of which may be asked what it would answer.
@@ -265,23 +201,22 @@ impl ProposalLines {
         &self.exchange
     }
 
-    /// The answer to a line of these bytes that says this. The only error is want of memory.
-    pub fn answer_line(
+    /// The reply to a line of these bytes that says this. The only error is want of memory.
+    pub fn reply_to(
         &mut self,
         alloc: Global,
-        number: u32,
         line: &[u8],
         said: Result<Request, Fault>,
-    ) -> Result<Vec<u8>, AllocError>
+    ) -> Result<ServedReply, AllocError>
         requires within { IfOk said RequestIsWithin }
         requires inside { IfOk said (IsInside line.now) }
-        ensures { IfOk result (λ text.
-            (text.items, self.new) ≡ served_line number self.old line.now said) }
+        ensures { IfOk result (λ reply.
+            (reply, self.new) ≡ proposing_reply self.old line.now said) }
     {
         match said {
-            Ok(Request::Propose(request)) => self.answer_proposal(alloc, number, line, request),
+            Ok(Request::Propose(request)) => self.proposal_reply(alloc, line, request),
             Ok(Request::Command(Command::Clear { market, budget })) => {
-                self.answer_clear(alloc, number, market, budget)
+                self.clear(alloc, market, budget)
             }
             Ok(
                 Request::Command(
@@ -291,8 +226,8 @@ impl ProposalLines {
                         prices,
                     },
                 ),
-            ) => self.answer_settlement(alloc, number, market, count, prices),
-            said => self.answer_beside(alloc, number, said),
+            ) => self.settle(market, count, prices),
+            said => self.reply_beside(alloc, said),
         }
     }
 }
@@ -302,7 +237,8 @@ impl LineAnswers for ProposalLines {
 
     fn answer(&mut self, alloc: Global, number: u32, line: &[u8]) -> Result<Vec<u8>, AllocError> {
         let said = read_line(alloc, &SERVED, line)?;
-        self.answer_line(alloc, number, line, said)
+        let reply = self.reply_to(alloc, line, said)?;
+        print_line(alloc, number, &reply)
     }
 
     ghost goes_on = { λ _ _ _. (tt, λ _ _ _ _. tt) };

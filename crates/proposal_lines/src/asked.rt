@@ -1,86 +1,62 @@
 //! What is told and changes nothing, whether a line says it or it is asked between lines.
-ghost use Rattle.std.specs.Prelude.{◌≡◌, ◌∷◌, ◌++◌, [], IfOk, Ok, Some};
-ghost use Rattle.std.specs.Option.{option_map};
+ghost use Rattle.std.specs.Prelude.{◌≡◌, IfOk, Ok};
 ghost use Rattle.command_text.specs.Within.{IsInside, RequestIsWithin};
-ghost use Rattle.proposal_lines.specs.Asked.{in_form, told_line};
-ghost use Rattle.proposal_lines.specs.Output.{proposing_reply_line};
+ghost use Rattle.proposal_lines.specs.Asked.{in_form, told_reply};
 
 use crate::proposed::proposed_of;
 use crate::reads::{balance_reply, book_reply, positions_reply};
-use crate::replies::{ProposingReply, print_line, refused_by_fault};
+use crate::replies::refused_by_fault;
 use crate::trials::trial_reply;
 use command_text::asked::Fault;
 use command_text::{Command, Request};
 use exchange_core::Exchange;
+use guarded_lines::margin_reply;
+use proposal_text::ServedReply;
+use quote_lines::asked_reply;
 use std::alloc::{AllocError, Global};
 
-fn told(alloc: Global, number: u32, reply: &ProposingReply) -> Result<Option<Vec<u8>>, AllocError>
-    ensures { IfOk result (λ told. option_map (λ text. text.items) told
-        ≡ Some (proposing_reply_line number reply.now ++ 10 ∷ [])) }
-{
-    Ok(Some(print_line(alloc, number, reply)?))
-}
-
 // What is told for a line that asks this.
-fn tell_request(
+fn told_request(
     alloc: Global,
     exchange: &Exchange,
-    number: u32,
     request: &Request,
-) -> Result<Option<Vec<u8>>, AllocError>
+) -> Result<Option<ServedReply>, AllocError>
     requires { RequestIsWithin request.now }
-    ensures { IfOk result (λ told. option_map (λ text. text.items) told
-        ≡ told_line number exchange.now (Ok request.now)) }
+    ensures { IfOk result (λ told. told ≡ told_reply exchange.now (Ok request.now)) }
 {
     match request {
         Request::Command(Command::Balance { account }) => {
-            told(alloc, number, &balance_reply(exchange, *account))
+            Ok(Some(balance_reply(exchange, *account)))
         }
-        Request::Quote(request) => {
-            let text = quote_lines::tell(alloc, exchange, number, request, None)?;
-            Ok(Some(text))
-        }
+        Request::Quote(request) => Ok(Some(asked_reply(alloc, exchange, request, None)?)),
         Request::Price(request) => {
             let quantity = Some(request.quantity);
-            let text = quote_lines::tell(alloc, exchange, number, &request.quote, quantity)?;
-            Ok(Some(text))
+            Ok(Some(asked_reply(alloc, exchange, &request.quote, quantity)?))
         }
-        Request::Margin(request) => {
-            let text = guarded_lines::tell(alloc, exchange, number, request)?;
-            Ok(Some(text))
-        }
-        Request::Book { market } => {
-            let reply = book_reply(exchange, *market)?;
-            told(alloc, number, &reply)
-        }
+        Request::Margin(request) => Ok(Some(margin_reply(alloc, exchange, request)?)),
+        Request::Book { market } => Ok(Some(book_reply(exchange, *market)?)),
         Request::Positions { account, market } => {
-            let reply = positions_reply(exchange, *account, *market)?;
-            told(alloc, number, &reply)
+            Ok(Some(positions_reply(exchange, *account, *market)?))
         }
-        Request::Try(request) => {
-            let reply = trial_reply(alloc, exchange, request)?;
-            told(alloc, number, &reply)
-        }
+        Request::Try(request) => Ok(Some(trial_reply(alloc, exchange, request)?)),
         _ => Ok(None),
     }
 }
 
-/// What is told for a line that says this, with this number: a balance, a quote, prices, a margin,
-/// live orders, positions, what a clear would tell of an order, or the fault of a line that has one.
-/// `None` of any other. The only error is want of memory.
-pub fn tell(
+/// What is told for a line that says this: a balance, a quote, prices, a margin, live orders,
+/// positions, what a clear would tell of an order, or the fault of a line that has one. `None` of
+/// any other. The only error is want of memory.
+pub fn told_reply(
     alloc: Global,
     exchange: &Exchange,
-    number: u32,
     said: &Result<Request, Fault>,
-) -> Result<Option<Vec<u8>>, AllocError>
+) -> Result<Option<ServedReply>, AllocError>
     requires { IfOk said.now RequestIsWithin }
-    ensures { IfOk result (λ told. option_map (λ text. text.items) told
-        ≡ told_line number exchange.now said.now) }
+    ensures { IfOk result (λ told. told ≡ told_reply exchange.now said.now) }
 {
     match said {
-        Ok(request) => tell_request(alloc, exchange, number, request),
-        Err(fault) => told(alloc, number, &refused_by_fault(*fault)),
+        Ok(request) => told_request(alloc, exchange, request),
+        Err(fault) => Ok(Some(refused_by_fault(*fault))),
     }
 }
 

@@ -17,11 +17,10 @@ ghost use Rattle.proposal_lines.specs.ProposingState.{state_of};
 
 use crate::judging::numbers_of;
 use crate::kept_by_market::KeptByMarket;
-use crate::replies::ProposingReply;
 use cert_check::Outcome;
 use exchange_core::{Exchange, Failure, Reply};
 use form::Batch;
-use proposal_text::ProposalReply;
+use proposal_text::{ProposalReply, ServedReply};
 use std::alloc::{AllocError, Global};
 
 // Charges an outcome of the batch of a market, or what takes its place, where the run stopped and
@@ -34,7 +33,7 @@ fn charge(
     market: u32,
     batch: Batch,
     outcome: Outcome,
-) -> Result<ProposingReply, AllocError>
+) -> Result<ServedReply, AllocError>
     requires open { is_trading exchange.old.book market ≡ true }
     requires few { exchange.old.book.finished < MAX_BATCHES }
     requires batch { option_map batch_of (market_of exchange.old.book market) ≡ Some batch }
@@ -50,7 +49,7 @@ fn charge(
     match kept.take_bounded(alloc, market, &numbers, outcome) {
         Ok(better) => {
             let number = exchange.clear_as(market, &batch, &better.proposal.fills)?;
-            Ok(ProposingReply::Told(ProposalReply::Bounded {
+            Ok(ServedReply::Told(ProposalReply::Bounded {
                 number,
                 market,
                 batch,
@@ -59,7 +58,7 @@ fn charge(
         }
         Err(outcome) => {
             let number = exchange.clear_as(market, &batch, &outcome.fills)?;
-            Ok(ProposingReply::Plain(Reply::Cleared {
+            Ok(ServedReply::Plain(Reply::Cleared {
                 number,
                 market,
                 batch,
@@ -78,7 +77,7 @@ pub(crate) fn clear(
     kept: &mut KeptByMarket,
     market: u32,
     budget: u32,
-) -> Result<ProposingReply, Failure>
+) -> Result<ServedReply, Failure>
     requires budget { IsBudget budget }
     requires proved { AreProvedIn exchange.old.book kept.old }
     ensures refused { TellsFirst unless_memory result

@@ -18,7 +18,6 @@ mod replies;
 mod trials;
 
 pub use answers::ProposalLines;
-pub use asked::{in_form, tell};
+pub use asked::{in_form, told_reply};
 pub use proposed::Proposed;
-pub use replies::{ProposingReply, print_line};
 pub use trials::trial_reply;

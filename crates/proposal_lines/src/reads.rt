@@ -2,17 +2,17 @@
 ghost use Rattle.std.specs.Prelude.{◌≡◌, IfOk};
 ghost use Rattle.proposal_lines.specs.Reads.{balance_reply, book_reply, positions_reply};
 
-use crate::replies::{ProposingReply, refused};
+use crate::replies::refused;
 use exchange_core::{Exchange, Refusal, Reply};
-use proposal_text::{Positions, ProposalReply};
+use proposal_text::{Positions, ProposalReply, ServedReply};
 use std::alloc::AllocError;
 
 /// The live orders of a market, or the first refusal that is met. The only error is want of memory.
-pub(crate) fn book_reply(exchange: &Exchange, market: u32) -> Result<ProposingReply, AllocError>
+pub(crate) fn book_reply(exchange: &Exchange, market: u32) -> Result<ServedReply, AllocError>
     ensures { IfOk result (λ reply. reply ≡ book_reply exchange.now market) }
 {
     match exchange.orders(market) {
-        Ok(batch) => Ok(ProposingReply::Told(ProposalReply::Book { market, batch })),
+        Ok(batch) => Ok(ServedReply::Told(ProposalReply::Book { market, batch })),
         Err(failure) => refused(failure),
     }
 }
@@ -23,11 +23,11 @@ pub(crate) fn positions_reply(
     exchange: &Exchange,
     account: u32,
     market: u32,
-) -> Result<ProposingReply, AllocError>
+) -> Result<ServedReply, AllocError>
     ensures { IfOk result (λ reply. reply ≡ positions_reply exchange.now account market) }
 {
     match exchange.positions(account, market) {
-        Ok(positions) => Ok(ProposingReply::Told(ProposalReply::Positions {
+        Ok(positions) => Ok(ServedReply::Told(ProposalReply::Positions {
             account,
             market,
             positions: Positions::from_vec(positions),
@@ -37,15 +37,15 @@ pub(crate) fn positions_reply(
 }
 
 /// The balance of an account and what is reserved of it, as a run tells them.
-pub(crate) fn balance_reply(exchange: &Exchange, account: u32) -> ProposingReply
+pub(crate) fn balance_reply(exchange: &Exchange, account: u32) -> ServedReply
     ensures { result ≡ balance_reply exchange.now account }
 {
     match (exchange.balance(account), exchange.reserved(account)) {
-        (Some(balance), Some(reserved)) => ProposingReply::Plain(Reply::Balance {
+        (Some(balance), Some(reserved)) => ServedReply::Plain(Reply::Balance {
             account,
             balance,
             reserved,
         }),
-        _ => ProposingReply::Plain(Refusal::NoAccount.reply()),
+        _ => ServedReply::Plain(Refusal::NoAccount.reply()),
     }
 }

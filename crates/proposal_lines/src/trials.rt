@@ -4,11 +4,10 @@ ghost use Rattle.command_text.specs.Within.{IsTryWithin};
 ghost use Rattle.proposal_lines.specs.Trials.{trial_of, trial_reply};
 
 use crate::kept_by_market::stop_of;
-use crate::replies::ProposingReply;
 use command_text::TryRequest;
 use exchange_core::Exchange;
 use option_quotes::Tried;
-use proposal_text::{ProposalReply, Trial};
+use proposal_text::{ProposalReply, ServedReply, Trial};
 use std::alloc::{AllocError, Global};
 
 // What is told of it by a clear.
@@ -29,16 +28,16 @@ pub fn trial_reply(
     alloc: Global,
     exchange: &Exchange,
     request: &TryRequest,
-) -> Result<ProposingReply, AllocError>
+) -> Result<ServedReply, AllocError>
     requires { IsTryWithin request.now }
     ensures { IfOk result (λ reply. reply ≡ trial_reply exchange.now request.now) }
 {
     let tried = quote_lines::tried_reply(alloc, exchange, request)?;
     match tried {
-        Ok(tried) => Ok(ProposingReply::Told(ProposalReply::Tried {
+        Ok(tried) => Ok(ServedReply::Told(ProposalReply::Tried {
             market: request.quote.market,
             trial: trial_of(&tried),
         })),
-        Err(refusal) => Ok(ProposingReply::Plain(refusal.reply())),
+        Err(refusal) => Ok(ServedReply::Plain(refusal.reply())),
     }
 }

@@ -23,16 +23,17 @@ use Rattle.order_book.specs.Markets.{MarketState}
 use Rattle.order_book.specs.Refusals.{is_market, is_settled}
 use Rattle.order_book.proofs.BookKept.{market_kept}
 use Rattle.proposal_lines.specs.Answers.{AreToldFor, IsToldFor, ProposalAnswer, beside, bounded, replied, taken}
+use Rattle.proposal_text.specs.declared.replies.ServedReply.{ServedReply}
 use Rattle.proposal_lines.specs.Laws.{IsSound}
 use Rattle.proposal_lines.specs.ProposingState.{ProposingState}
 use Rattle.proposal_lines.specs.UsesBest.{IfTaken, IsUsedBy, ToldClear, UsesBest, clear_in, clears_or}
 use Rattle.proposal_lines.proofs.UsingBest.{uses_the_best}
-use Rattle.serve_lines.specs.Output.{serving_said}
+use Rattle.serve_lines.specs.Output.{serving_reply}
 use Rattle.serve_lines.specs.Phased.{exchange_of}
 use Rattle.serve_lines.specs.ServingState.{ServingState}
 use Rattle.serve_lines.proofs.Batches as serving
 use Rattle.secured_lines.specs.ClosedBest.{BestOfClosedIsUsed, ClosedBatchesStay, IsElsewhere, IsUsedNext, UsesBestOfClosed, UsesTheBestOfClosed}
-use Rattle.secured_lines.specs.Output.{handed_on, secured_line, secured_said}
+use Rattle.secured_lines.specs.Output.{handed_on, secured_line, secured_reply}
 use Rattle.secured_lines.specs.SecuredState.{SecuredState, exchange_in}
 use Rattle.secured_lines.proofs.LineKinds.{by_answer, by_kind}
 use Rattle.secured_lines.proofs.StandingStill.{closed_markets_stand_still}
@@ -60,12 +61,12 @@ still_there market state next sound there same =
 -- ---- one line
 module _ (market : ℕ) (state : SecuredState) (line : InputLine) (sound : IsSound state.serving.proposing) (shut : is_closed state.serving.closed market ≡ true)
     (there : is_market (exchange_in state).book market ≡ true) (elsewhere : IsElsewhere market state.serving line) where
-  abbrev IsSame : List ℕ × SecuredState → Type 0
+  abbrev IsSame : ServedReply × SecuredState → Type 0
   IsSame now = batch_in (exchange_in now.1) market ≡ batch_in (exchange_in state) market
 
-  handed_same : (said : Result Request Fault) → said_in SERVED line.bytes ≡ said → IsSame (handed_on line.number state line.bytes said)
+  handed_same : (said : Result Request Fault) → said_in SERVED line.bytes ≡ said → IsSame (handed_on state line.bytes said)
   handed_same said is =
-      subst (λ (said : Result Request Fault). batch_in (exchange_of (serving_said line.number state.serving line.bytes said).1) market ≡ batch_in (exchange_in state) market) is
+      subst (λ (said : Result Request Fault). batch_in (exchange_of (serving_reply state.serving line.bytes said).1) market ≡ batch_in (exchange_in state) market) is
       (serving.closed_batches_stay market state.serving (line ∷ []) sound shut there (elsewhere, tt))
 
   -- a withdrawal leaves the book
@@ -74,14 +75,14 @@ module _ (market : ℕ) (state : SecuredState) (line : InputLine) (sound : IsSou
   withdrawal_same account amount None = refl
   withdrawal_same account amount (Some refusal) = refl
 
-  said_same : (said : Result Request Fault) → said_in SERVED line.bytes ≡ said → IsSame (secured_said line.number state line.bytes said)
+  said_same : (said : Result Request Fault) → said_in SERVED line.bytes ≡ said → IsSame (secured_reply state line.bytes said)
   said_same =
-      by_kind (λ said. said_in SERVED line.bytes ≡ said → IsSame (secured_said line.number state line.bytes said)) (λ account is. refl) (λ account is. refl)
+      by_kind (λ said. said_in SERVED line.bytes ≡ said → IsSame (secured_reply state line.bytes said)) (λ account is. refl) (λ account is. refl)
       (λ command is.
-      by_answer IsSame line.number state line.bytes command (λ need kept. refl)
+      by_answer IsSame state line.bytes command (λ need kept. refl)
       (λ free account amount it own. withdrawal_same account amount (refusal_of (exchange_in state) (Withdraw account amount)))
       (λ free. handed_same (Ok (asks.Command command)) is))
-      (λ said other is. subst IsSame (sym (other.handed line.number state line.bytes)) (handed_same said is))
+      (λ said other is. subst IsSame (sym (other.handed state line.bytes)) (handed_same said is))
 
   abbrev next : SecuredState
   next = (secured_line line.number state line.bytes).1

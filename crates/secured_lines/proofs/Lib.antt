@@ -1,3 +1,4 @@
+mod AskedAlike
 pub mod ClosedBest
 pub mod Ends
 pub mod LineKinds

@@ -1,5 +1,5 @@
 -- A line does to the exchange and its secured accounts what one event does, or nothing.
-use Rattle.std.proofs.Common.{◌≡◌, ℕ, List, Bool, true, false, is_some, Option, Some, None, Result, Ok, Err, IfOk, inl, inr, if◌then◌else◌, refl, sym, ap, ◌∙◌, subst}
+use Rattle.std.proofs.Common.{◌≡◌, ℕ, List, Bool, true, false, is_some, Option, Some, None, Result, Ok, IfOk, inl, inr, if◌then◌else◌, refl, sym, ap, ◌∙◌, subst}
 use Rattle.std.specs.Prelude.{◌⊎◌}
 use Rattle.std.specs.Option.{option_map_or}
 use Rattle.account_need.specs.Account.{Need}
@@ -25,26 +25,27 @@ use Rattle.lists.specs.Refusals.{first_of}
 use Rattle.proposal_text.specs.declared.replies.ProposalReply.TheVariants as told
 use Rattle.proposal_lines.specs.Answers.{IsToldFor, ProposalAnswer, beside, bounded, replied, taken}
 use Rattle.proposal_lines.specs.Laws.{IsSound}
-use Rattle.proposal_lines.specs.Proposed.{proposed_of}
-use Rattle.proposal_lines.specs.declared.replies.ProposingReply.TheVariants.{Told}
+use Rattle.proposal_text.specs.declared.replies.ServedReply.{ServedReply}
+use Rattle.proposal_text.specs.declared.replies.ServedReply.TheVariants.{Told}
 use Rattle.proposal_lines.proofs.Clearing.{better_is}
 use Rattle.secured_accounts.specs.Laws.{Asked, Charged, Event, MayCome, Securing, after_event, guarded}
 use Rattle.secured_accounts.specs.Secured.{uncovered}
-use Rattle.serve_lines.specs.Output.{handed_on as serving_handed_on, serving_line, serving_said, written_reply as serving_reply}
+use Rattle.serve_lines.specs.Output.{handed_on as serving_handed_on, serving_line, serving_reply}
 use Rattle.serve_lines.specs.Phased.{closed_effect, exchange_of, refused_by, reopened_effect, with_phases}
 use Rattle.serve_lines.specs.ServingState.{ServingState}
-use Rattle.serve_lines.proofs.StandingStill.{other_leaves, proposed_leaves}
+use Rattle.serve_lines.proofs.LineKinds as serving
+use Rattle.serve_lines.proofs.StandingStill.{reply_leaves}
 use Rattle.serve_lines.proofs.Telling.{serving_told}
 use Rattle.secured_lines.specs.Laws.{guarded_in}
-use Rattle.secured_lines.specs.Output.{command_line, handed_on, kept_from, secured_line, secured_said, withdrawn}
+use Rattle.secured_lines.specs.Output.{command_reply, handed_on, kept_from, secured_line, secured_reply, withdrawn}
 use Rattle.secured_lines.specs.SecuredState.{SecuredState, exchange_in, secured_of}
 use Rattle.secured_lines.proofs.LineKinds.{by_answer, by_kind}
 use Rattle.secured_lines.proofs.Prices.{has_prices}
 
 -- ---- lines that say no command leave the exchange
-module _ (number : ℕ) (state : ServingState) (line : List ℕ) where
+module _ (state : ServingState) (line : List ℕ) where
   abbrev Leaves : Result Request Fault → Type 0
-  Leaves said = exchange_of (serving_said number state line said).1 ≡ exchange_of state
+  Leaves said = exchange_of (serving_reply state line said).1 ≡ exchange_of state
 
   close_leaves : (market : ℕ) (refused : Option PhaseRefusal)
       → exchange_of (with_phases state (option_map_or (λ first. (refused_by first, state.closed)) refused (closed_effect (exchange_of state) state.closed market))).1 ≡ exchange_of state
@@ -57,19 +58,11 @@ module _ (number : ℕ) (state : ServingState) (line : List ℕ) where
   reopen_leaves market (Some first) = refl
 
   pub said_leaves : (said : Result Request Fault) → ((command : Command) → said ≡ Ok (asks.Command command) → ⊥) → Leaves said
-  said_leaves (Ok (asks.Command command)) none = absurd (none command refl)
-  said_leaves (Ok (asks.Close market)) none = close_leaves market (first_of (close_refusals (exchange_of state) state.closed market))
-  said_leaves (Ok (asks.Reopen market)) none = reopen_leaves market (first_of (reopen_refusals (exchange_of state) state.closed market))
-  said_leaves (Ok (asks.Book market)) none = refl
-  said_leaves (Ok (asks.Positions account market)) none = refl
-  said_leaves (Ok (asks.Propose request)) none = proposed_leaves state.proposing (proposed_of line request)
-  said_leaves (Ok (asks.Quote request)) none = other_leaves number (exchange_of state) (Ok (asks.Quote request)) none
-  said_leaves (Ok (asks.Price request)) none = other_leaves number (exchange_of state) (Ok (asks.Price request)) none
-  said_leaves (Ok (asks.Try request)) none = other_leaves number (exchange_of state) (Ok (asks.Try request)) none
-  said_leaves (Ok (asks.Margin request)) none = other_leaves number (exchange_of state) (Ok (asks.Margin request)) none
-  said_leaves (Ok (asks.Secure account)) none = other_leaves number (exchange_of state) (Ok (asks.Secure account)) none
-  said_leaves (Ok (asks.Need account)) none = other_leaves number (exchange_of state) (Ok (asks.Need account)) none
-  said_leaves (Err fault) none = other_leaves number (exchange_of state) (Err fault) none
+  said_leaves =
+      serving.by_kind (λ said. ((command : Command) → said ≡ Ok (asks.Command command) → ⊥) → Leaves said)
+      (λ market none. close_leaves market (first_of (close_refusals (exchange_of state) state.closed market)))
+      (λ market none. reopen_leaves market (first_of (reopen_refusals (exchange_of state) state.closed market))) (λ command none. absurd (none command refl))
+      (λ said other none. ap (λ (now : ServedReply × ServingState). exchange_of now.1) (other.handed state line) ∙ reply_leaves state.proposing line said none)
 
 -- ---- a line over accounts that may be secured
 module _ (state : SecuredState) (line : InputLine) (sound : IsSound state.serving.proposing) where
@@ -117,46 +110,46 @@ module _ (state : SecuredState) (line : InputLine) (sound : IsSound state.servin
     told_comes through (beside number text) after told = left after told.exchange
 
     -- handed on to a closed market, or to the exchange
-    handed_comes : kept_from state command ≡ None → Comes (handed_on line.number state line.bytes (Ok (asks.Command command))).1
+    handed_comes : kept_from state command ≡ None → Comes (handed_on state line.bytes (Ok (asks.Command command))).1
     handed_comes free = by (bars state.serving.closed exchange command) refl
       where
         said : Result Request Fault
         said = Ok (asks.Command command)
 
-        by : (barred : Bool) → bars state.serving.closed exchange command ≡ barred → Comes (handed_on line.number state line.bytes said).1
+        by : (barred : Bool) → bars state.serving.closed exchange command ≡ barred → Comes (handed_on state line.bytes said).1
         by true is =
-            left (serving_said line.number state.serving line.bytes said).1
-            (ap (λ (b : Bool). exchange_of (if b then serving_reply line.number (Told told.MarketIsClosed, state.serving)
-            else serving_handed_on line.number state.serving line.bytes said (ended_in exchange command)).1) is)
+            left (serving_reply state.serving line.bytes said).1
+            (ap (λ (b : Bool). exchange_of (if b then (Told told.MarketIsClosed, state.serving)
+            else serving_handed_on state.serving line.bytes said (ended_in exchange command)).1) is)
         by false is =
             let through : uncovered state.secured exchange command ≡ None =
             sym (ap (λ (b : Bool). if b then None else uncovered state.secured exchange command) is) ∙ free in
             let one = (serving_told line state.serving sound).line_is in
-            subst (λ (s : Result Request Fault). Comes (secured_of (serving_said line.number state.serving line.bytes s).1 state.secured)) says
+            subst (λ (s : Result Request Fault). Comes (secured_of (serving_reply state.serving line.bytes s).1 state.secured)) says
             (told_comes through one.answer (serving_line line.number state.serving line.bytes).1 one.told)
 
   -- a withdrawal of a secured account, which no closed market keeps from the exchange
   withdrawn_comes : (command : Command) → said_in SERVED line.bytes ≡ Ok (asks.Command command) → kept_from state command ≡ None
-      → (account amount : ℕ) → command ≡ Withdraw account amount → Comes (withdrawn line.number state account amount).1
+      → (account amount : ℕ) → command ≡ Withdraw account amount → Comes (withdrawn state account amount).1
   withdrawn_comes command says free account amount is =
       let through : uncovered state.secured exchange command ≡ None =
       subst (λ (c : Command). uncovered state.secured exchange c ≡ None) (sym is) (subst (λ (c : Command). kept_from state c ≡ None) is free) in
-      asked command says through (withdrawn line.number state account amount).1.serving (ap (λ (c : Command). (step exchange c).1) (sym is))
+      asked command says through (withdrawn state account amount).1.serving (ap (λ (c : Command). (step exchange c).1) (sym is))
 
-  command_comes : (command : Command) → said_in SERVED line.bytes ≡ Ok (asks.Command command) → Comes (command_line line.number state line.bytes command).1
+  command_comes : (command : Command) → said_in SERVED line.bytes ≡ Ok (asks.Command command) → Comes (command_reply state line.bytes command).1
   command_comes command says =
-      by_answer (λ now. Comes now.1) line.number state line.bytes command (λ need kept. inl refl)
+      by_answer (λ now. Comes now.1) state line.bytes command (λ need kept. inl refl)
       (λ free account amount is own. withdrawn_comes command says free account amount is) (handed_comes command says)
 
   -- ---- what a line says
-  said_comes : (said : Result Request Fault) → said_in SERVED line.bytes ≡ said → Comes (secured_said line.number state line.bytes said).1
+  said_comes : (said : Result Request Fault) → said_in SERVED line.bytes ≡ said → Comes (secured_reply state line.bytes said).1
   said_comes =
-      by_kind (λ said. said_in SERVED line.bytes ≡ said → Comes (secured_said line.number state line.bytes said).1)
+      by_kind (λ said. said_in SERVED line.bytes ≡ said → Comes (secured_reply state line.bytes said).1)
       (λ account is. inr (record { event = Securing account; may = within_said (Ok (asks.Secure account)) is; does = refl }))
       (λ account is. inl refl) command_comes
       (λ said other is.
-      subst (λ (now : List ℕ × SecuredState). Comes now.1) (sym (other.handed line.number state line.bytes))
-      (left (serving_said line.number state.serving line.bytes said).1 (said_leaves line.number state.serving line.bytes said other.none)))
+      subst (λ (now : ServedReply × SecuredState). Comes now.1) (sym (other.handed state line.bytes))
+      (left (serving_reply state.serving line.bytes said).1 (said_leaves state.serving line.bytes said other.none)))
 
   pub line_comes : Comes (secured_line line.number state line.bytes).1
   line_comes = said_comes (said_in SERVED line.bytes) refl

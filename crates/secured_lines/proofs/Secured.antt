@@ -6,11 +6,12 @@ use Rattle.command_text.specs.declared.requests.Request.{Request}
 use Rattle.command_text.specs.declared.words.TheConstants.{SERVED}
 use Rattle.command_text.specs.Said.{said_in}
 use Rattle.lists.specs.Refusals.{first_of}
+use Rattle.proposal_text.specs.declared.replies.ServedReply.{ServedReply}
 use Rattle.secured_accounts.specs.Refusals.{secure_refusals}
 use Rattle.secured_accounts.specs.Secured.{is_secured, with_secured}
 use Rattle.secured_accounts.specs.declared.refusal.SecuringRefusal.{SecuringRefusal}
 use Rattle.secured_lines.specs.Laws.{SecuredStaySecured}
-use Rattle.secured_lines.specs.Output.{secured_line, secured_said}
+use Rattle.secured_lines.specs.Output.{secured_line, secured_reply}
 use Rattle.secured_lines.specs.SecuredState.{SecuredState, exchange_in}
 use Rattle.secured_lines.proofs.LineKinds.{by_answer, by_kind}
 
@@ -32,7 +33,7 @@ more_secured account other secured is = by (is_secured secured other)
     by false = more_any account other secured is
 
 -- ---- one line
-module _ (account number : ℕ) (state : SecuredState) (line : List ℕ) (own : is_secured state.secured account ≡ true) where
+module _ (account : ℕ) (state : SecuredState) (line : List ℕ) (own : is_secured state.secured account ≡ true) where
   abbrev Stays : SecuredState → Type 0
   Stays after = is_secured after.secured account ≡ true
 
@@ -40,13 +41,13 @@ module _ (account number : ℕ) (state : SecuredState) (line : List ℕ) (own : 
   secure_stays other None = more_secured account other state.secured own
   secure_stays other (Some refusal) = own
 
-  pub said_stays : (said : Result Request Fault) → Stays (secured_said number state line said).1
+  pub said_stays : (said : Result Request Fault) → Stays (secured_reply state line said).1
   said_stays =
-      by_kind (λ said. Stays (secured_said number state line said).1) (λ other. secure_stays other (first_of (secure_refusals (exchange_in state) other)))
-      (λ other. own) (λ command. by_answer (λ now. Stays now.1) number state line command (λ need kept. own) (λ free other amount is mine. own) (λ free. own))
-      (λ said other. subst (λ (now : List ℕ × SecuredState). Stays now.1) (sym (other.handed number state line)) own)
+      by_kind (λ said. Stays (secured_reply state line said).1) (λ other. secure_stays other (first_of (secure_refusals (exchange_in state) other)))
+      (λ other. own) (λ command. by_answer (λ now. Stays now.1) state line command (λ need kept. own) (λ free other amount is mine. own) (λ free. own))
+      (λ said other. subst (λ (now : ServedReply × SecuredState). Stays now.1) (sym (other.handed state line)) own)
 
 pub secured_stay_secured : SecuredStaySecured
 secured_stay_secured state [] account own = own
 secured_stay_secured state (line ∷ lines) account own =
-    secured_stay_secured (secured_line line.number state line.bytes).1 lines account (said_stays account line.number state line.bytes own (said_in SERVED line.bytes))
+    secured_stay_secured (secured_line line.number state line.bytes).1 lines account (said_stays account state line.bytes own (said_in SERVED line.bytes))

@@ -14,12 +14,13 @@ use Rattle.exchange_core.specs.Refusals.{refusal_of}
 use Rattle.exchange_core.specs.Step.{refusal_effect, withdraw_effect}
 use Rattle.exchange_lines.specs.LineSteps.{InputLine}
 use Rattle.order_book.specs.Book.{live_of}
+use Rattle.proposal_text.specs.declared.replies.ServedReply.{ServedReply}
 use Rattle.proposal_lines.specs.Laws.{IsSound}
 use Rattle.serve_lines.specs.Laws.{phased_of}
-use Rattle.serve_lines.specs.Output.{serving_said}
+use Rattle.serve_lines.specs.Output.{serving_reply}
 use Rattle.serve_lines.proofs.StandingStill as serving
 use Rattle.secured_lines.specs.ClosedBest.{IsElsewhere}
-use Rattle.secured_lines.specs.Output.{handed_on, secured_line, secured_said, withdrawn}
+use Rattle.secured_lines.specs.Output.{handed_on, secured_line, secured_reply, withdrawn}
 use Rattle.secured_lines.specs.Promises.{ClosedMarketsStandStill}
 use Rattle.secured_lines.specs.SecuredState.{SecuredState, exchange_in}
 use Rattle.secured_lines.proofs.LineKinds.{by_answer, by_kind}
@@ -27,12 +28,12 @@ use Rattle.secured_lines.proofs.Telling.{secured_sound}
 
 module _ (market : ℕ) (state : SecuredState) (line : InputLine) (sound : IsSound state.serving.proposing) (shut : is_closed state.serving.closed market ≡ true)
     (elsewhere : IsElsewhere market state.serving line) where
-  abbrev Stands : List ℕ × SecuredState → Type 0
+  abbrev Stands : ServedReply × SecuredState → Type 0
   Stands now = StandsStill market (phased_of state.serving) (phased_of now.1.serving)
 
-  handed_stands : (said : Result Request Fault) → said_in SERVED line.bytes ≡ said → Stands (handed_on line.number state line.bytes said)
+  handed_stands : (said : Result Request Fault) → said_in SERVED line.bytes ≡ said → Stands (handed_on state line.bytes said)
   handed_stands said is =
-      subst (λ (said : Result Request Fault). StandsStill market (phased_of state.serving) (phased_of (serving_said line.number state.serving line.bytes said).1)) is
+      subst (λ (said : Result Request Fault). StandsStill market (phased_of state.serving) (phased_of (serving_reply state.serving line.bytes said).1)) is
       (serving.closed_markets_stand_still market state.serving (line ∷ []) sound shut (elsewhere, tt))
 
   -- a withdrawal leaves the book
@@ -41,17 +42,17 @@ module _ (market : ℕ) (state : SecuredState) (line : InputLine) (sound : IsSou
   withdrawal_live account amount None = refl
   withdrawal_live account amount (Some refusal) = refl
 
-  withdrawn_stands : (account amount : ℕ) → Stands (withdrawn line.number state account amount)
+  withdrawn_stands : (account amount : ℕ) → Stands (withdrawn state account amount)
   withdrawn_stands account amount = record { closed = shut; live = withdrawal_live account amount (refusal_of (exchange_in state) (Withdraw account amount)) }
 
-  said_stands : (said : Result Request Fault) → said_in SERVED line.bytes ≡ said → Stands (secured_said line.number state line.bytes said)
+  said_stands : (said : Result Request Fault) → said_in SERVED line.bytes ≡ said → Stands (secured_reply state line.bytes said)
   said_stands =
-      by_kind (λ said. said_in SERVED line.bytes ≡ said → Stands (secured_said line.number state line.bytes said)) (λ account is. record { closed = shut; live = refl })
+      by_kind (λ said. said_in SERVED line.bytes ≡ said → Stands (secured_reply state line.bytes said)) (λ account is. record { closed = shut; live = refl })
       (λ account is. record { closed = shut; live = refl })
       (λ command is.
-      by_answer Stands line.number state line.bytes command (λ need kept. record { closed = shut; live = refl }) (λ free account amount it own. withdrawn_stands account amount)
+      by_answer Stands state line.bytes command (λ need kept. record { closed = shut; live = refl }) (λ free account amount it own. withdrawn_stands account amount)
       (λ free. handed_stands (Ok (asks.Command command)) is))
-      (λ said other is. subst Stands (sym (other.handed line.number state line.bytes)) (handed_stands said is))
+      (λ said other is. subst Stands (sym (other.handed state line.bytes)) (handed_stands said is))
 
 -- ---- all lines
 pub closed_markets_stand_still : ClosedMarketsStandStill

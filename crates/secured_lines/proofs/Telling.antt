@@ -24,7 +24,8 @@ use Rattle.reply_print.specs.ReplyPieces.{reply_line}
 use Rattle.proposal_lines.specs.Laws.{IsSound}
 use Rattle.proposal_lines.specs.Promises.{TellsAsked, TellsBy}
 use Rattle.proposal_lines.specs.ProposingState.{ProposingState}
-use Rattle.proposal_lines.specs.declared.replies.ProposingReply.{ProposingReply}
+use Rattle.proposal_text.specs.Pieces.{written_reply}
+use Rattle.proposal_text.specs.declared.replies.ServedReply.{ServedReply}
 use Rattle.proposal_lines.proofs.Beside.{IsBeside, beside_text, refusal_beside}
 use Rattle.proposal_lines.proofs.Telling.{IsTold, TellsLine, beside_told, outputs_tell_by, unended_told}
 use Rattle.secured_accounts.specs.Refusals.{need_answer, secure_answer}
@@ -35,7 +36,7 @@ use Rattle.serve_lines.specs.Output.{serving_said}
 use Rattle.serve_lines.specs.ServingState.{ServingState}
 use Rattle.serve_lines.proofs.Telling.{serving_told}
 use Rattle.secured_lines.specs.Laws.{state_by_lines}
-use Rattle.secured_lines.specs.Output.{command_line, handed_on, need_reply, secure_reply, secured_line, secured_output, secured_said, withdrawn, written_reply}
+use Rattle.secured_lines.specs.Output.{command_reply, handed_on, need_reply, secure_reply, secured_line, secured_output, secured_reply, withdrawn}
 use Rattle.secured_lines.specs.Replies.{need_answered, refused_by, secure_answered, uncovered_reply}
 use Rattle.secured_lines.specs.SecuredState.{SecuredState, empty_secured, exchange_in}
 use Rattle.secured_lines.proofs.LineKinds.{by_answer, by_kind}
@@ -62,8 +63,12 @@ module _ (line : InputLine) (state : SecuredState) (sound : IsSound state.servin
     line_is : IsTold state.serving.proposing line (now.0, now.1.serving.proposing)
     asked_is : TellsAsked state.serving.proposing line (now.0, now.1.serving.proposing.exchange)
 
+  -- a reply, as it is written
+  abbrev Answers : ServedReply × SecuredState → Type 0
+  Answers now = Tells (written_reply line.number now)
+
   -- ---- answered as where no account is secured
-  handed_told : (said : Result Request Fault) → said_in SERVED line.bytes ≡ said → Tells (handed_on line.number state line.bytes said)
+  handed_told : (said : Result Request Fault) → said_in SERVED line.bytes ≡ said → Answers (handed_on state line.bytes said)
   handed_told said is =
       let told = serving_told line state.serving sound in
       record {
@@ -86,20 +91,20 @@ module _ (line : InputLine) (state : SecuredState) (sound : IsSound state.servin
     trial = λ request says none. absurd (nothing.trial request (sym is ∙ says));
   }
 
-  ruled_told : (said : Result Request Fault) → said_in SERVED line.bytes ≡ said → AsksNothing said → (reply : ProposingReply) → IsBeside reply
-      → (after : SecuredState) → after.serving ≡ state.serving → Tells (written_reply line.number (reply, after))
+  ruled_told : (said : Result Request Fault) → said_in SERVED line.bytes ≡ said → AsksNothing said → (reply : ServedReply) → IsBeside reply
+      → (after : SecuredState) → after.serving ≡ state.serving → Answers (reply, after)
   ruled_told said is nothing reply beside after same = record {
     line_is = beside_told state.serving.proposing line sound ((written_reply line.number (reply, after)).0, after.serving.proposing) (beside_text line.number reply beside)
         (ap (λ (s : ServingState). s.proposing.exchange) same) (ap (λ (s : ServingState). s.proposing.kept) same);
     asked_is = nothing_asked said is nothing (written_reply line.number (reply, after));
   }
 
-  secure_told : (account : ℕ) → said_in SERVED line.bytes ≡ Ok (asks.Secure account) → Tells (written_reply line.number (secure_reply state account))
+  secure_told : (account : ℕ) → said_in SERVED line.bytes ≡ Ok (asks.Secure account) → Answers (secure_reply state account)
   secure_told account is =
       ruled_told (Ok (asks.Secure account)) is (record { quote = λ request e. cc; prices = λ request e. cc; trial = λ request e. cc }) (secure_reply state account).0
       (secure_beside account (secure_answer (exchange_in state) account)) (secure_reply state account).1 refl
 
-  need_told : (account : ℕ) → said_in SERVED line.bytes ≡ Ok (asks.Need account) → Tells (written_reply line.number (need_reply state account, state))
+  need_told : (account : ℕ) → said_in SERVED line.bytes ≡ Ok (asks.Need account) → Answers (need_reply state account, state)
   need_told account is =
       ruled_told (Ok (asks.Need account)) is (record { quote = λ request e. cc; prices = λ request e. cc; trial = λ request e. cc }) (need_reply state account)
       (need_beside account (need_answer state.secured (exchange_in state) account)) state refl
@@ -109,12 +114,12 @@ module _ (line : InputLine) (state : SecuredState) (sound : IsSound state.servin
     nothing : AsksNothing (Ok (asks.Command command))
     nothing = record { quote = λ request e. cc; prices = λ request e. cc; trial = λ request e. cc }
 
-    kept_told : (need : Need) → Tells (written_reply line.number (uncovered_reply need, state))
+    kept_told : (need : Need) → Answers (uncovered_reply need, state)
     kept_told need = ruled_told (Ok (asks.Command command)) says nothing (uncovered_reply need) tt state refl
 
-  withdrawn_told : (account amount : ℕ) → said_in SERVED line.bytes ≡ Ok (asks.Command (Withdraw account amount)) → Tells (withdrawn line.number state account amount)
+  withdrawn_told : (account amount : ℕ) → said_in SERVED line.bytes ≡ Ok (asks.Command (Withdraw account amount)) → Answers (withdrawn state account amount)
   withdrawn_told account amount says =
-      let now = withdrawn line.number state account amount in
+      let now = written_reply line.number (withdrawn state account amount) in
       let is : body.Command (Withdraw account amount) ≡ body_of_line line.bytes = sym (command_to_run SERVED line.bytes (Withdraw account amount) says) in
       record {
         line_is = unended_told state.serving.proposing line sound (now.0, now.1.serving.proposing)
@@ -123,16 +128,16 @@ module _ (line : InputLine) (state : SecuredState) (sound : IsSound state.servin
         asked_is = nothing_asked (Ok (asks.Command (Withdraw account amount))) says (nothing (Withdraw account amount) says) now;
       }
 
-  command_told : (command : Command) → said_in SERVED line.bytes ≡ Ok (asks.Command command) → Tells (command_line line.number state line.bytes command)
+  command_told : (command : Command) → said_in SERVED line.bytes ≡ Ok (asks.Command command) → Answers (command_reply state line.bytes command)
   command_told command says =
-      by_answer Tells line.number state line.bytes command (λ need kept. kept_told command says need)
+      by_answer Answers state line.bytes command (λ need kept. kept_told command says need)
       (λ free account amount is own. withdrawn_told account amount (says ∙ ap (λ (c : Command). Ok (asks.Command c)) is)) (λ free. handed_told (Ok (asks.Command command)) says)
 
   -- ---- by what it says
-  said_told : (said : Result Request Fault) → said_in SERVED line.bytes ≡ said → Tells (secured_said line.number state line.bytes said)
+  said_told : (said : Result Request Fault) → said_in SERVED line.bytes ≡ said → Answers (secured_reply state line.bytes said)
   said_told =
-      by_kind (λ said. said_in SERVED line.bytes ≡ said → Tells (secured_said line.number state line.bytes said)) secure_told need_told command_told
-      (λ said other is. subst Tells (sym (other.handed line.number state line.bytes)) (handed_told said is))
+      by_kind (λ said. said_in SERVED line.bytes ≡ said → Answers (secured_reply state line.bytes said)) secure_told need_told command_told
+      (λ said other is. subst Answers (sym (other.handed state line.bytes)) (handed_told said is))
 
   -- the state after it is sound
   pub secured_sound : IsSound (secured_line line.number state line.bytes).1.serving.proposing

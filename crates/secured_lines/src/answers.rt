@@ -2,7 +2,7 @@
 ghost use Rattle.std.specs.Prelude.{◌≡◌, IfOk, OnOk};
 ghost use Rattle.command_text.specs.Within.{IsAccount, IsInside, IsWithin, RequestIsWithin};
 ghost use Rattle.live_lines.specs.Answering.{by_step};
-ghost use Rattle.secured_lines.specs.Output.{command_line, kept_from, let_through, need_reply, secure_reply, secured_line, secured_said, written_reply};
+ghost use Rattle.secured_lines.specs.Output.{command_reply, kept_from, let_through, need_reply, secure_reply, secured_line, secured_reply, secured_said};
 ghost use Rattle.secured_lines.specs.SecuredState.{empty_secured, exchange_in, with_opened};
 
 use crate::replies::{need, secure, uncovered_reply};
@@ -11,7 +11,7 @@ use command_text::words::SERVED;
 use command_text::{Command, Request, read_line};
 use exchange_core::Exchange;
 use live_lines::{LineAnswers, LineSteps};
-use proposal_lines::{ProposingReply, print_line};
+use proposal_text::{ServedReply, print_line};
 use secured_accounts::{Need, SecuredAccounts};
 use serve_lines::ServeLines;
 use std::alloc::{AllocError, Global};
@@ -60,40 +60,18 @@ impl SecuredLines {
         self.accounts.secure_opened(account)
     }
 
-    fn secure(&mut self, alloc: Global, account: u32) -> Result<ProposingReply, AllocError>
+    fn secure(&mut self, alloc: Global, account: u32) -> Result<ServedReply, AllocError>
         requires { IsAccount account }
         ensures { IfOk result (λ reply. (reply, self.new) ≡ secure_reply self.old account) }
     {
         secure(alloc, self.serving.exchange(), &mut self.accounts, account)
     }
 
-    // The answer to a line that secures an account.
-    fn answer_secure(
-        &mut self,
-        alloc: Global,
-        number: u32,
-        account: u32,
-    ) -> Result<Vec<u8>, AllocError>
-        requires { IsAccount account }
-        ensures { IfOk result (λ text.
-            (text.items, self.new) ≡ written_reply number (secure_reply self.old account)) }
+    // What an account needs.
+    pub(crate) fn need(&self, alloc: Global, account: u32) -> Result<ServedReply, AllocError>
+        ensures { IfOk result (λ reply. reply ≡ need_reply self.now account) }
     {
-        let reply = self.secure(alloc, account)?;
-        print_line(alloc, number, &reply)
-    }
-
-    // The answer to a line that asks what an account needs.
-    pub(crate) fn answer_need(
-        &self,
-        alloc: Global,
-        number: u32,
-        account: u32,
-    ) -> Result<Vec<u8>, AllocError>
-        ensures { IfOk result (λ text. (text.items, self.now)
-            ≡ written_reply number (need_reply self.now account, self.now)) }
-    {
-        let reply = need(alloc, self.serving.exchange(), &self.accounts, account)?;
-        print_line(alloc, number, &reply)
+        need(alloc, self.serving.exchange(), &self.accounts, account)
     }
 
     // What keeps a command from the exchange that no closed market keeps from it.
@@ -108,45 +86,62 @@ impl SecuredLines {
             .uncovered(alloc, self.serving.exchange(), command)
     }
 
-    // The answer to a command of which the balance is enough. A withdrawal of a secured account is
+    // The reply to a command of which the balance is enough. A withdrawal of a secured account is
     // carried out as a run does: its margins are in its need.
     fn let_through(
         &mut self,
         alloc: Global,
-        number: u32,
         line: &[u8],
         command: Command,
-    ) -> Result<Vec<u8>, AllocError>
+    ) -> Result<ServedReply, AllocError>
         requires { IsWithin command }
-        ensures { IfOk result (λ text.
-            (text.items, self.new) ≡ let_through number self.old line.now command) }
+        ensures { IfOk result (λ reply.
+            (reply, self.new) ≡ let_through self.old line.now command) }
     {
         match command {
-            Command::Withdraw { account, amount } if self.accounts.is_secured(account) => self
-                .serving
-                .answer_withdrawal(alloc, number, account, amount),
-            command => {
-                self.serving
-                    .answer_said(alloc, number, line, Ok(Request::Command(command)))
+            Command::Withdraw { account, amount } if self.accounts.is_secured(account) => {
+                self.serving.withdraw(account, amount)
             }
+            command => self
+                .serving
+                .reply_to(alloc, line, Ok(Request::Command(command))),
         }
     }
 
-    // The answer to a line of these bytes that says this command.
-    fn answer_command(
+    // The reply to a line of these bytes that says this command.
+    fn command_reply(
         &mut self,
         alloc: Global,
-        number: u32,
         line: &[u8],
         command: Command,
-    ) -> Result<Vec<u8>, AllocError>
+    ) -> Result<ServedReply, AllocError>
         requires { IsWithin command }
-        ensures { IfOk result (λ text.
-            (text.items, self.new) ≡ command_line number self.old line.now command) }
+        ensures { IfOk result (λ reply.
+            (reply, self.new) ≡ command_reply self.old line.now command) }
     {
         match self.kept_from(alloc, &command)? {
-            Some(need) => print_line(alloc, number, &uncovered_reply(need)),
-            None => self.let_through(alloc, number, line, command),
+            Some(need) => Ok(uncovered_reply(need)),
+            None => self.let_through(alloc, line, command),
+        }
+    }
+
+    // The reply to a line of these bytes that says this.
+    fn reply_to(
+        &mut self,
+        alloc: Global,
+        line: &[u8],
+        said: Result<Request, Fault>,
+    ) -> Result<ServedReply, AllocError>
+        requires within { IfOk said RequestIsWithin }
+        requires inside { IfOk said (IsInside line.now) }
+        ensures { IfOk result (λ reply.
+            (reply, self.new) ≡ secured_reply self.old line.now said) }
+    {
+        match said {
+            Ok(Request::Secure { account }) => self.secure(alloc, account),
+            Ok(Request::Need { account }) => self.need(alloc, account),
+            Ok(Request::Command(command)) => self.command_reply(alloc, line, command),
+            said => self.serving.reply_to(alloc, line, said),
         }
     }
 
@@ -163,12 +158,8 @@ impl SecuredLines {
         ensures { IfOk result (λ text.
             (text.items, self.new) ≡ secured_said number self.old line.now said) }
     {
-        match said {
-            Ok(Request::Secure { account }) => self.answer_secure(alloc, number, account),
-            Ok(Request::Need { account }) => self.answer_need(alloc, number, account),
-            Ok(Request::Command(command)) => self.answer_command(alloc, number, line, command),
-            said => self.serving.answer_said(alloc, number, line, said),
-        }
+        let reply = self.reply_to(alloc, line, said)?;
+        print_line(alloc, number, &reply)
     }
 }
 

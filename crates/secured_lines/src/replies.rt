@@ -1,12 +1,11 @@
 // What a line is told that secures an account, or asks what one needs.
 ghost use Rattle.std.specs.Prelude.{◌≡◌, IfOk};
 ghost use Rattle.command_text.specs.Within.{IsAccount};
-ghost use Rattle.secured_lines.specs.Replies.{need_answered, needed_by, refused_by, secure_answered, secured_by, told_need, told_of, uncovered_reply};
+ghost use Rattle.secured_lines.specs.Replies.{need_answered, needed_by, refused_by, secure_answered, secured_by, told_need, uncovered_reply};
 
 use account_need::NoNeed;
 use exchange_core::Exchange;
-use proposal_lines::ProposingReply;
-use proposal_text::{AccountNeed, AccountReply, Need as Told, ProposalReply};
+use proposal_text::{AccountNeed, Need as Told, ProposalReply, ServedReply};
 use secured_accounts::{Need, SecuredAccounts, SecuringRefusal, ToldNeed};
 use std::alloc::{AllocError, Global};
 
@@ -24,36 +23,30 @@ fn told_need(need: Need) -> Told
     }
 }
 
-fn told_of(told: AccountReply) -> ProposingReply
-    ensures { result ≡ told_of told }
-{
-    ProposingReply::Told(ProposalReply::Account(told))
-}
-
 /// A balance is not enough for this need.
-pub(crate) fn uncovered_reply(need: Need) -> ProposingReply
+pub(crate) fn uncovered_reply(need: Need) -> ServedReply
     ensures { result ≡ uncovered_reply need }
 {
-    told_of(AccountReply::Uncovered {
+    ServedReply::Told(ProposalReply::Uncovered {
         need: told_need(need),
     })
 }
 
-fn refused_by(refusal: SecuringRefusal) -> ProposingReply
+fn refused_by(refusal: SecuringRefusal) -> ServedReply
     ensures { result ≡ refused_by refusal }
 {
     match refusal {
-        SecuringRefusal::Exchange(first) => ProposingReply::Plain(first.reply()),
+        SecuringRefusal::Exchange(first) => ServedReply::Plain(first.reply()),
         SecuringRefusal::Uncovered(need) => uncovered_reply(need),
     }
 }
 
 // An account whose need is a word is not secured.
-fn secure_answered(account: u32, answer: Result<Need, SecuringRefusal>) -> ProposingReply
+fn secure_answered(account: u32, answer: Result<Need, SecuringRefusal>) -> ServedReply
     ensures { result ≡ secure_answered account answer }
 {
     match answer {
-        Ok(Ok(amount)) => told_of(AccountReply::Secured {
+        Ok(Ok(amount)) => ServedReply::Told(ProposalReply::Secured {
             account,
             need: amount,
         }),
@@ -62,11 +55,11 @@ fn secure_answered(account: u32, answer: Result<Need, SecuringRefusal>) -> Propo
     }
 }
 
-fn need_answered(account: u32, answer: Result<ToldNeed, SecuringRefusal>) -> ProposingReply
+fn need_answered(account: u32, answer: Result<ToldNeed, SecuringRefusal>) -> ServedReply
     ensures { result ≡ need_answered account answer }
 {
     match answer {
-        Ok(told) => told_of(AccountReply::Needs(AccountNeed {
+        Ok(told) => ServedReply::Told(ProposalReply::Needs(AccountNeed {
             account,
             balance: told.balance,
             need: told_need(told.need),
@@ -82,7 +75,7 @@ pub(crate) fn secure(
     exchange: &Exchange,
     accounts: &mut SecuredAccounts,
     account: u32,
-) -> Result<ProposingReply, AllocError>
+) -> Result<ServedReply, AllocError>
     requires { IsAccount account }
     ensures { IfOk result (λ reply.
         (reply, accounts.new) ≡ secured_by exchange.now accounts.old account) }
@@ -97,7 +90,7 @@ pub(crate) fn need(
     exchange: &Exchange,
     accounts: &SecuredAccounts,
     account: u32,
-) -> Result<ProposingReply, AllocError>
+) -> Result<ServedReply, AllocError>
     ensures { IfOk result (λ reply. reply ≡ needed_by exchange.now accounts.now account) }
 {
     let answer = accounts.need(alloc, exchange, account)?;

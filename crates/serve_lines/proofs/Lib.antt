@@ -1,5 +1,5 @@
+pub mod LineKinds
 pub mod Batches
-pub mod Ends
 pub mod StandingStill
 pub mod Telling
 pub mod Without

@@ -3,7 +3,7 @@ ghost use Rattle.std.specs.Prelude.{◌≡◌, IfOk};
 ghost use Rattle.auction_phases.specs.Phases.{bars};
 ghost use Rattle.command_text.specs.Within.{IsAccount, IsAmount, IsInside, IsWithin, RequestIsWithin};
 ghost use Rattle.live_lines.specs.Answering.{by_step};
-ghost use Rattle.serve_lines.specs.Output.{command_line, handed_on, serving_line, serving_said, withdrawal_line, written_reply};
+ghost use Rattle.serve_lines.specs.Output.{command_reply, handed_on, serving_line, serving_reply, withdrawal_reply};
 ghost use Rattle.serve_lines.specs.Phased.{close_reply, exchange_of, reopen_reply};
 ghost use Rattle.serve_lines.specs.ServingState.{empty_serving};
 
@@ -14,8 +14,8 @@ use command_text::words::SERVED;
 use command_text::{Command, Request, read_line};
 use exchange_core::Exchange;
 use live_lines::{LineAnswers, LineSteps};
-use proposal_lines::{ProposalLines, ProposingReply, print_line};
-use proposal_text::ProposalReply;
+use proposal_lines::ProposalLines;
+use proposal_text::{ProposalReply, ServedReply, print_line};
 use std::alloc::{AllocError, Global};
 use std::marker::Model;
 
@@ -49,44 +49,16 @@ impl ServeLines {
         }
     }
 
-    fn close(&mut self, market: u32) -> Result<ProposingReply, AllocError>
+    fn close(&mut self, market: u32) -> Result<ServedReply, AllocError>
         ensures { IfOk result (λ reply. (reply, self.new) ≡ close_reply self.old market) }
     {
         close(self.proposals.exchange(), &mut self.phases, market)
     }
 
-    fn reopen(&mut self, market: u32) -> ProposingReply
+    fn reopen(&mut self, market: u32) -> ServedReply
         ensures { (result, self.new) ≡ reopen_reply self.old market }
     {
         reopen(self.proposals.exchange(), &mut self.phases, market)
-    }
-
-    // The answer to a line that closes a market.
-    fn answer_close(
-        &mut self,
-        alloc: Global,
-        number: u32,
-        market: u32,
-    ) -> Result<Vec<u8>, AllocError>
-        ensures { IfOk result (λ text.
-            (text.items, self.new) ≡ written_reply number (close_reply self.old market)) }
-    {
-        let reply = self.close(market)?;
-        print_line(alloc, number, &reply)
-    }
-
-    // The answer to a line that opens a market again.
-    fn answer_reopen(
-        &mut self,
-        alloc: Global,
-        number: u32,
-        market: u32,
-    ) -> Result<Vec<u8>, AllocError>
-        ensures { IfOk result (λ text.
-            (text.items, self.new) ≡ written_reply number (reopen_reply self.old market)) }
-    {
-        let reply = self.reopen(market);
-        print_line(alloc, number, &reply)
     }
 
     /// The exchange, of which may be asked what it would answer.
@@ -104,82 +76,71 @@ impl ServeLines {
         self.phases.bars(self.proposals.exchange(), command)
     }
 
-    // The answer of an exchange without phases, after which a market is open that was cleared or
+    // The reply of an exchange without phases, after which a market is open that was cleared or
     // settled.
     fn hand_on(
         &mut self,
         alloc: Global,
-        number: u32,
         line: &[u8],
         said: Result<Request, Fault>,
         ended: Option<u32>,
-    ) -> Result<Vec<u8>, AllocError>
+    ) -> Result<ServedReply, AllocError>
         requires within { IfOk said RequestIsWithin }
         requires inside { IfOk said (IsInside line.now) }
-        ensures { IfOk result (λ text.
-            (text.items, self.new) ≡ handed_on number self.old line.now said ended) }
+        ensures { IfOk result (λ reply.
+            (reply, self.new) ≡ handed_on self.old line.now said ended) }
     {
-        let text = self.proposals.answer_line(alloc, number, line, said)?;
+        let reply = self.proposals.reply_to(alloc, line, said)?;
         self.phases.after_end(ended);
-        Ok(text)
+        Ok(reply)
     }
 
-    // The answer to a line of these bytes that says this command.
-    fn answer_command(
+    // The reply to a line of these bytes that says this command.
+    fn command_reply(
         &mut self,
         alloc: Global,
-        number: u32,
         line: &[u8],
         command: Command,
-    ) -> Result<Vec<u8>, AllocError>
+    ) -> Result<ServedReply, AllocError>
         requires { IsWithin command }
-        ensures { IfOk result (λ text.
-            (text.items, self.new) ≡ command_line number self.old line.now command) }
+        ensures { IfOk result (λ reply.
+            (reply, self.new) ≡ command_reply self.old line.now command) }
     {
         if self.bars(&command) {
-            let reply = ProposingReply::Told(ProposalReply::MarketIsClosed);
-            return print_line(alloc, number, &reply);
+            return Ok(ServedReply::Told(ProposalReply::MarketIsClosed));
         }
         let ended = ended_in(self.proposals.exchange(), &command);
-        self.hand_on(alloc, number, line, Ok(Request::Command(command)), ended)
+        self.hand_on(alloc, line, Ok(Request::Command(command)), ended)
     }
 
-    /// The answer of a run to a withdrawal, whatever the margins of its account. The only error is
+    /// The reply of a run to a withdrawal, whatever the margins of its account. The only error is
     /// want of memory.
-    pub fn answer_withdrawal(
-        &mut self,
-        alloc: Global,
-        number: u32,
-        account: u32,
-        amount: u64,
-    ) -> Result<Vec<u8>, AllocError>
+    pub fn withdraw(&mut self, account: u32, amount: u64) -> Result<ServedReply, AllocError>
         requires account { IsAccount account }
         requires amount { IsAmount amount }
-        ensures { IfOk result (λ text.
-            (text.items, self.new) ≡ withdrawal_line number self.old account amount) }
+        ensures { IfOk result (λ reply.
+            (reply, self.new) ≡ withdrawal_reply self.old account amount) }
     {
-        self.proposals
-            .answer_withdrawal(alloc, number, account, amount)
+        self.proposals.withdraw(account, amount)
     }
 
-    /// The answer to a line of these bytes that says this. The only error is want of memory.
-    pub fn answer_said(
+    /// The reply to a line of these bytes that says this. The only error is want of memory.
+    pub fn reply_to(
         &mut self,
         alloc: Global,
-        number: u32,
         line: &[u8],
         said: Result<Request, Fault>,
-    ) -> Result<Vec<u8>, AllocError>
+    ) -> Result<ServedReply, AllocError>
         requires within { IfOk said RequestIsWithin }
         requires inside { IfOk said (IsInside line.now) }
-        ensures { IfOk result (λ text.
-            (text.items, self.new) ≡ serving_said number self.old line.now said) }
+        ensures { IfOk result (λ reply.
+            (reply, self.new) ≡ serving_reply self.old line.now said) }
     {
         match said {
-            Ok(Request::Close { market }) => self.answer_close(alloc, number, market),
-            Ok(Request::Reopen { market }) => self.answer_reopen(alloc, number, market),
-            Ok(Request::Command(command)) => self.answer_command(alloc, number, line, command),
-            said => self.hand_on(alloc, number, line, said, None),
+            Ok(Request::Close { market }) => self.close(market),
+            Ok(Request::Reopen { market }) => Ok(self.reopen(market)),
+            Ok(Request::Command(command)) => self.command_reply(alloc, line, command),
+            said => self.hand_on(alloc, line, said, None),
         }
     }
 }
@@ -189,7 +150,8 @@ impl LineAnswers for ServeLines {
 
     fn answer(&mut self, alloc: Global, number: u32, line: &[u8]) -> Result<Vec<u8>, AllocError> {
         let said = read_line(alloc, &SERVED, line)?;
-        self.answer_said(alloc, number, line, said)
+        let reply = self.reply_to(alloc, line, said)?;
+        print_line(alloc, number, &reply)
     }
 
     ghost goes_on = { λ _ _ _. (tt, λ _ _ _ _. tt) };

@@ -5,22 +5,21 @@ ghost use Rattle.serve_lines.specs.Phased.{closed_by, refused_by, reopened_by};
 
 use auction_phases::{PhaseFailure, PhaseRefusal, Phases};
 use exchange_core::Exchange;
-use proposal_lines::ProposingReply;
-use proposal_text::ProposalReply;
+use proposal_text::{ProposalReply, ServedReply};
 use std::alloc::AllocError;
 
-fn refused_by(refusal: PhaseRefusal) -> ProposingReply
+fn refused_by(refusal: PhaseRefusal) -> ServedReply
     ensures { result ≡ refused_by refusal }
 {
     match refusal {
-        PhaseRefusal::Exchange(first) => ProposingReply::Plain(first.reply()),
-        PhaseRefusal::Closed => ProposingReply::Told(ProposalReply::MarketIsClosed),
-        PhaseRefusal::Open => ProposingReply::Told(ProposalReply::MarketIsOpen),
+        PhaseRefusal::Exchange(first) => ServedReply::Plain(first.reply()),
+        PhaseRefusal::Closed => ServedReply::Told(ProposalReply::MarketIsClosed),
+        PhaseRefusal::Open => ServedReply::Told(ProposalReply::MarketIsOpen),
     }
 }
 
 // The reply to a request that fails. Want of memory has none.
-fn refused(failure: PhaseFailure) -> Result<ProposingReply, AllocError>
+fn refused(failure: PhaseFailure) -> Result<ServedReply, AllocError>
     ensures { IfOk result (λ reply.
         IsSomeAnd (unless_memory failure) (λ first. reply ≡ refused_by first)) }
 {
@@ -35,22 +34,22 @@ pub(crate) fn close(
     exchange: &Exchange,
     phases: &mut Phases,
     market: u32,
-) -> Result<ProposingReply, AllocError>
+) -> Result<ServedReply, AllocError>
     ensures { IfOk result (λ reply.
         (reply, phases.new) ≡ closed_by exchange.now phases.old market) }
 {
     match phases.close(exchange, market) {
-        Ok(orders) => Ok(ProposingReply::Told(ProposalReply::Closed { market, orders })),
+        Ok(orders) => Ok(ServedReply::Told(ProposalReply::Closed { market, orders })),
         Err(failure) => refused(failure),
     }
 }
 
 // Opens a market again.
-pub(crate) fn reopen(exchange: &Exchange, phases: &mut Phases, market: u32) -> ProposingReply
+pub(crate) fn reopen(exchange: &Exchange, phases: &mut Phases, market: u32) -> ServedReply
     ensures { (result, phases.new) ≡ reopened_by exchange.now phases.old market }
 {
     match phases.reopen(exchange, market) {
-        Ok(()) => ProposingReply::Told(ProposalReply::Reopened { market }),
+        Ok(()) => ServedReply::Told(ProposalReply::Reopened { market }),
         Err(refusal) => refused_by(refusal),
     }
 }

@@ -1,5 +1,5 @@
 -- What is asked is told as the next line would be.
-use Rattle.std.proofs.Common.{◌≡◌, ℕ, Bool, true, false, List, if◌then◌else◌, Result, Ok, refl, sym, ap, ◌∙◌, subst}
+use Rattle.std.proofs.Common.{◌≡◌, ℕ, Bool, true, false, List, [], ◌∷◌, ◌++◌, if◌then◌else◌, Result, Ok, refl, sym, ap, ◌∙◌, subst}
 use Rattle.asked_lines.specs.Requests.{command_may_be_asked, may_be_asked}
 use Rattle.command_text.specs.declared.asked.Fault.{Fault}
 use Rattle.command_text.specs.declared.requests.Request.{Request}
@@ -8,21 +8,24 @@ use Rattle.command_text.specs.declared.words.TheConstants.{SERVED}
 use Rattle.command_text.specs.Said.{said_in}
 use Rattle.exchange_core.specs.ExchangeState.{ExchangeState}
 use Rattle.exchange_lines.specs.LineSteps.{InputLine}
+use Rattle.proposal_text.specs.Pieces.{served_line}
+use Rattle.proposal_text.specs.declared.replies.ServedReply.{ServedReply}
 use Rattle.proposal_lines.specs.Answers.{TellsAsked, TellsTrial}
+use Rattle.proposal_lines.specs.Asked.{in_form}
 use Rattle.proposal_lines.specs.Laws.{IsSound}
 use Rattle.quote_lines.specs.Laws.{TellsPrices, TellsQuote}
-use Rattle.secured_lines.specs.Asked.{said_asks, secured_asks}
-use Rattle.secured_lines.specs.Output.{secured_line, secured_said}
+use Rattle.secured_lines.specs.Asked.{asked_reply, said_asks, secured_asks}
+use Rattle.secured_lines.specs.Output.{secured_line, secured_reply, secured_said}
 use Rattle.secured_lines.specs.SecuredState.{SecuredState}
 use Rattle.secured_lines.proofs.Telling.{secured_told}
 use Rattle.served_members.specs.Asking.{QuestionsAreTold}
 
-if_may : (may : Bool) (text other : List ℕ) → may ≡ true → (if may then text else other) ≡ text
-if_may true text other is = refl
-if_may false text other is = cc
+if_may : (may : Bool) (reply other : ServedReply) → may ≡ true → (if may then reply else other) ≡ reply
+if_may true reply other is = refl
+if_may false reply other is = cc
 
 module _ (number : ℕ) (state : SecuredState) (body : List ℕ) where
-  as_next : (request : Request) → may_be_asked request ≡ true → said_asks number state body (Ok request) ≡ (secured_said number state body (Ok request)).0
+  as_next : (request : Request) → may_be_asked request ≡ true → asked_reply state body (in_form body (Ok request)) ≡ (secured_reply state body (Ok request)).0
   as_next (Command command) may = if_may (command_may_be_asked command) _ _ may
   as_next (Quote request) may = refl
   as_next (Price request) may = refl
@@ -38,7 +41,8 @@ module _ (number : ℕ) (state : SecuredState) (body : List ℕ) where
 
   is_next : (request : Request) → said_in SERVED body ≡ Ok request → may_be_asked request ≡ true → secured_asks number state body ≡ (secured_line number state body).0
   is_next request is may =
-      ap (λ (r : Result Request Fault). said_asks number state body r) is ∙ as_next request may ∙ sym (ap (λ (r : Result Request Fault). (secured_said number state body r).0) is)
+      ap (λ (r : Result Request Fault). said_asks number state body r) is ∙ ap (λ (reply : ServedReply). served_line number reply ++ 10 ∷ []) (as_next request may)
+      ∙ sym (ap (λ (r : Result Request Fault). (secured_said number state body r).0) is)
 
   abbrev line : InputLine
   line = record { number = number; bytes = body }

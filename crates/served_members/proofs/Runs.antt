@@ -16,21 +16,21 @@ use Rattle.exchange_core.specs.Step.{effect, refusal_effect, step}
 use Rattle.exchange_core.specs.declared.refusal.Refusal.{Refusal}
 use Rattle.guarded_lines.specs.Replies.{plain_reply_to}
 use Rattle.guarded_lines.specs.Withdrawals.{uncovered_by}
-use Rattle.guarded_lines.specs.declared.replies.GuardedReply.TheVariants as guarded_reply
 use Rattle.proposal_text.specs.declared.needs.Need.{Need}
 use Rattle.proposal_text.specs.declared.replies.BoundedOutcome.{BoundedOutcome}
 use Rattle.proposal_text.specs.declared.replies.ProposalReply.TheVariants as told
-use Rattle.proposal_lines.specs.AllKinds.{said_line}
+use Rattle.proposal_lines.specs.AllKinds.{said_reply}
 use Rattle.proposal_lines.specs.Clears.{better_in, cleared_by}
 use Rattle.proposal_lines.specs.Laws.{IsSound}
-use Rattle.proposal_lines.specs.Output.{served_line}
+use Rattle.proposal_lines.specs.Output.{proposing_reply}
 use Rattle.proposal_lines.specs.Reads as reads
-use Rattle.proposal_lines.specs.declared.replies.ProposingReply.TheVariants.{Told}
+use Rattle.proposal_text.specs.declared.replies.ServedReply.{ServedReply}
+use Rattle.proposal_text.specs.declared.replies.ServedReply.TheVariants.{Told}
 use Rattle.proposal_lines.proofs.Clearing.{better_is}
-use Rattle.serve_lines.specs.Output.{handed_on, serving_said, written_reply}
+use Rattle.serve_lines.specs.Output.{handed_on, serving_reply}
 use Rattle.serve_lines.specs.Phased.{exchange_of}
 use Rattle.serve_lines.specs.ServingState.{ServingState}
-use Rattle.secured_lines.specs.Output.{secured_said}
+use Rattle.secured_lines.specs.Output.{secured_reply, secured_said}
 use Rattle.secured_lines.specs.SecuredState.{SecuredState, exchange_in, with_opened}
 use Rattle.secured_lines.proofs.LineKinds.{by_answer, by_kind}
 use Rattle.secured_lines.proofs.Moves.{said_leaves}
@@ -41,7 +41,7 @@ use Rattle.served_members.specs.Laws.{MoveByRule}
 use Rattle.served_members.specs.Members.{IsSoundServed}
 
 -- ---- where no account is secured
-module _ (number : ℕ) (state : ServingState) (line : List ℕ) (sound : IsSound state.proposing) where
+module _ (state : ServingState) (line : List ℕ) (sound : IsSound state.proposing) where
   abbrev exchange : ExchangeState
   exchange = exchange_of state
 
@@ -50,11 +50,11 @@ module _ (number : ℕ) (state : ServingState) (line : List ℕ) (sound : IsSoun
 
   -- carried out by the exchange, unless a withdrawal is uncovered
   carried_out : (command : Command) (need : Option Need)
-      → Moved command (option_map_or (λ need. (guarded_reply.Uncovered need, exchange)) need (plain_reply_to exchange (body.Command command))).1
+      → Moved command (option_map_or (λ need. (Told (told.Uncovered need), exchange)) need (plain_reply_to exchange (body.Command command))).1
   carried_out command None = inr (inl refl)
   carried_out command (Some need) = inl refl
 
-  plain_moved : (command : Command) → Moved command (said_line number exchange (Ok (asks.Command command))).1
+  plain_moved : (command : Command) → Moved command (said_reply exchange (Ok (asks.Command command))).1
   plain_moved command = carried_out command (uncovered_by exchange (body.Command command))
 
   -- a clear, by whatever outcome
@@ -68,7 +68,7 @@ module _ (number : ℕ) (state : ServingState) (line : List ℕ) (sound : IsSoun
       let proved = better_is state.proposing market budget sound is better found in
       inr (inr (better.proposal.fills, is, proved.proves.covered.covers.are_fills, refl))
 
-  command_moved : (command : Command) → Moved command (served_line number state.proposing line (Ok (asks.Command command))).1.exchange
+  command_moved : (command : Command) → Moved command (proposing_reply state.proposing line (Ok (asks.Command command))).1.exchange
   command_moved (Clear market budget) = clear_moved market budget (refusal_of exchange (Clear market budget)) refl (better_in state.proposing market budget) refl
   command_moved (Open account) = plain_moved (Open account)
   command_moved (Deposit account amount) = plain_moved (Deposit account amount)
@@ -81,11 +81,11 @@ module _ (number : ℕ) (state : ServingState) (line : List ℕ) (sound : IsSoun
   command_moved (Balance account) = plain_moved (Balance account)
 
   -- which a closed market may keep from the exchange
-  handed_moved : (command : Command) → Moved command (exchange_of (serving_said number state line (Ok (asks.Command command))).1)
+  handed_moved : (command : Command) → Moved command (exchange_of (serving_reply state line (Ok (asks.Command command))).1)
   handed_moved command = by (bars state.closed exchange command)
     where
-      by : (barred : Bool) → Moved command (exchange_of (if barred then written_reply number (Told told.MarketIsClosed, state)
-          else handed_on number state line (Ok (asks.Command command)) (ended_in exchange command)).1)
+      by : (barred : Bool) → Moved command (exchange_of (if barred then (Told told.MarketIsClosed, state)
+          else handed_on state line (Ok (asks.Command command)) (ended_in exchange command)).1)
       by true = inl refl
       by false = command_moved command
 
@@ -106,26 +106,26 @@ unmoved (Ok (asks.Propose request)) before after same = same
 unmoved (Ok (asks.Try request)) before after same = same
 unmoved (Err fault) before after same = same
 
-module _ (number : ℕ) (state : SecuredState) (line : List ℕ) (sound : IsSoundServed state) where
+module _ (state : SecuredState) (line : List ℕ) (sound : IsSoundServed state) where
   -- behind the answer to what is said
-  abbrev Behind : Result Request Fault → List ℕ × SecuredState → Type 0
+  abbrev Behind : Result Request Fault → ServedReply × SecuredState → Type 0
   Behind said now = IsMoved said (exchange_in state) (exchange_in now.1)
 
-  ruled_moved : (command : Command) → Behind (Ok (asks.Command command)) (secured_said number state line (Ok (asks.Command command)))
+  ruled_moved : (command : Command) → Behind (Ok (asks.Command command)) (secured_reply state line (Ok (asks.Command command)))
   ruled_moved command =
-      by_answer (Behind (Ok (asks.Command command))) number state line command (λ need kept. inl refl)
-      (λ free account amount is own. inr (inl (ap (λ (c : Command). (step (exchange_in state) c).1) (sym is)))) (λ free. handed_moved number state.serving line sound command)
+      by_answer (Behind (Ok (asks.Command command))) state line command (λ need kept. inl refl)
+      (λ free account amount is own. inr (inl (ap (λ (c : Command). (step (exchange_in state) c).1) (sym is)))) (λ free. handed_moved state.serving line sound command)
 
-  said_moved : (said : Result Request Fault) → Behind said (secured_said number state line said)
+  said_moved : (said : Result Request Fault) → Behind said (secured_reply state line said)
   said_moved =
-      by_kind (λ said. Behind said (secured_said number state line said)) (λ account. refl) (λ account. refl) ruled_moved
-      (λ said other. subst (Behind said) (sym (other.handed number state line))
-      (unmoved said (exchange_in state) (exchange_of (serving_said number state.serving line said).1) (said_leaves number state.serving line said other.none)))
+      by_kind (λ said. Behind said (secured_reply state line said)) (λ account. refl) (λ account. refl) ruled_moved
+      (λ said other. subst (Behind said) (sym (other.handed state line))
+      (unmoved said (exchange_in state) (exchange_of (serving_reply state.serving line said).1) (said_leaves state.serving line said other.none)))
 
 served_runs : RunsBy exchange_in secured_said with_opened IsSoundServed
 served_runs = record {
   kept = λ state sound. sound.kept;
-  moves = λ number state line sound. said_moved number state line sound (said_in SERVED line);
+  moves = λ number state line sound. said_moved state line sound (said_in SERVED line);
   stays = λ number state line sound. secured_sound (record { number = number; bytes = line }) state sound;
   left = λ state account. refl;
   opened = λ state account sound. sound;

@@ -17,11 +17,12 @@ use Rattle.members.specs.Members.{MembersState, Owned, is_allowed, is_over, owne
 use Rattle.members.specs.Rule.{is_operator}
 use Rattle.members.specs.declared.refusal.MemberRefusal.TheVariants.{NotAllowed, Quota}
 use Rattle.members.proofs.OwnerLists.{owner_is}
+use Rattle.proposal_text.specs.declared.replies.ServedReply.{ServedReply}
 use Rattle.secured_accounts.specs.Refusals.{secure_refusals}
 use Rattle.secured_accounts.specs.Secured.{is_secured, with_secured}
 use Rattle.secured_accounts.specs.declared.refusal.SecuringRefusal.{SecuringRefusal}
 use Rattle.secured_accounts.proofs.Ruled.{secured_or_new}
-use Rattle.secured_lines.specs.Output.{secured_said}
+use Rattle.secured_lines.specs.Output.{secured_reply, secured_said}
 use Rattle.secured_lines.specs.SecuredState.{SecuredState, exchange_in, with_opened}
 use Rattle.secured_lines.proofs.LineKinds.{by_answer, by_kind}
 use Rattle.secured_lines.proofs.Secured.{more_secured, said_stays}
@@ -122,7 +123,7 @@ one_secured number state said all =
     by_body number state said AreSecured all
     (λ through. all_noted state.members said.session (line_state number state said)
     (more state.members.owners state.served.secured (line_state number state said).secured
-    (λ account own. said_stays account number state.served said.body own (said_in SERVED said.body)) all)
+    (λ account own. said_stays account state.served said.body own (said_in SERVED said.body)) all)
     (exchange_in state.served) (said_in SERVED said.body))
 
 pub members_are_secured : MembersAreSecured
@@ -166,7 +167,7 @@ module _ (number : ℕ) (state : ServedMembers) (said : SaidBody) (account : ℕ
 
   -- a line of its owner
   secure_comes : (other : ℕ) → said_in SERVED said.body ≡ Ok (asks.Secure other) → refusal_of_said exchange_in secured_said with_opened state said.session (Ok (asks.Secure other)) ≡ None
-      → Comes (secured_said number state.served said.body (Ok (asks.Secure other))).1
+      → Comes (secured_reply state.served said.body (Ok (asks.Secure other))).1
   secure_comes other says through = by (first_of (secure_refusals (exchange_in state.served) other))
     where
       allowed : owns state.members.owners said.session other ≡ true
@@ -186,12 +187,12 @@ module _ (number : ℕ) (state : ServedMembers) (said : SaidBody) (account : ℕ
       by None own = ⊎_elim (λ before. inl before) (λ (is : other ≡ account). inr (new is)) (secured_or_new account state.served.secured other own)
 
   said_comes : (r : Result Request Fault) → said_in SERVED said.body ≡ r → refusal_of_said exchange_in secured_said with_opened state said.session r ≡ None
-      → Comes (secured_said number state.served said.body r).1
+      → Comes (secured_reply state.served said.body r).1
   said_comes =
-      by_kind (λ r. said_in SERVED said.body ≡ r → refusal_of_said exchange_in secured_said with_opened state said.session r ≡ None → Comes (secured_said number state.served said.body r).1)
+      by_kind (λ r. said_in SERVED said.body ≡ r → refusal_of_said exchange_in secured_said with_opened state said.session r ≡ None → Comes (secured_reply state.served said.body r).1)
       secure_comes (λ other says through own. inl own)
-      (λ command says through. by_answer (λ now. Comes now.1) number state.served said.body command (λ need kept own. inl own) (λ free other amount is mine own. inl own) (λ free own. inl own))
-      (λ r other says through. subst (λ (now : List ℕ × SecuredState). Comes now.1) (sym (other.handed number state.served said.body)) (λ own. inl own))
+      (λ command says through. by_answer (λ now. Comes now.1) state.served said.body command (λ need kept own. inl own) (λ free other amount is mine own. inl own) (λ free own. inl own))
+      (λ r other says through. subst (λ (now : ServedReply × SecuredState). Comes now.1) (sym (other.handed state.served said.body)) (λ own. inl own))
 
   carried_comes : rule_refusal exchange_in secured_said with_opened state said ≡ None → Comes (carried number state said).served
   carried_comes through =

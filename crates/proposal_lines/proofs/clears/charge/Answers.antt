@@ -8,7 +8,7 @@ use Rattle.proposal_lines.specs.Clears.{better_than, charge_effect}
 use Rattle.proposal_lines.specs.KeptByMarket.{bounded_in, without_kept}
 use Rattle.proposal_lines.specs.ProposingState.{state_of}
 use Rattle.proposal_lines.specs.Proved.{AreProvedIn}
-use Rattle.proposal_lines.specs.declared.replies.ProposingReply.TheVariants.{Plain}
+use Rattle.proposal_text.specs.declared.replies.ServedReply.TheVariants.{Plain}
 use Rattle.proposal_lines.proofs.Charging.{batch_keeps_others, better_fills, bounded_charged, reference_charged, taken_better, taken_none}
 use Rattle.proposal_lines.proofs.Kept.{without_proved}
 use Rattle.proposal_lines.proofs.clears.charge.Goals as goal

@@ -9,7 +9,7 @@ use Rattle.quote_lines.specs.Replies.{tried_for}
 use Rattle.quote_lines.proofs.MayQuote.{told_of_found, told_of_refusal}
 use Rattle.proposal_lines.specs.Reads.{refused_by}
 use Rattle.proposal_lines.specs.Trials.{trial_of}
-use Rattle.proposal_lines.specs.declared.replies.ProposingReply.TheVariants.{Plain, Told}
+use Rattle.proposal_text.specs.declared.replies.ServedReply.TheVariants.{Plain, Told}
 use Rattle.proposal_lines.proofs.trials.trial_reply.Goals as goal
 
 pub returns-in-Ok : goal.returns-in-Ok
