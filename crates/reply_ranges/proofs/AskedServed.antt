@@ -1,5 +1,5 @@
 -- What is asked between lines of `serve` is told by a sound line.
-use Rattle.std.proofs.Common.{◌≡◌, ℕ, List, [], ◌∷◌, ◌++◌, Bool, true, false, if◌then◌else◌, Result, Ok, Err, refl, subst}
+use Rattle.std.proofs.Common.{◌≡◌, ℕ, List, Bool, true, false, if◌then◌else◌, Result, Ok, Err, refl, subst}
 use Rattle.std.specs.Prelude.{IfOk}
 use Rattle.asked_lines.specs.Requests.{may_be_asked}
 use Rattle.command_text.specs.declared.asked.Fault.{Fault}
@@ -14,40 +14,38 @@ use Rattle.proposal_lines.specs.Asked.{if_proposed}
 use Rattle.proposal_lines.specs.Proposed.{proposed_of}
 use Rattle.proposal_lines.specs.declared.proposed.Proposed.{Proposed}
 use Rattle.proposal_text.specs.declared.replies.Bar.{Bar}
-use Rattle.proposal_text.specs.declared.replies.Bar.TheVariants.{NotAllowed, NotAsked, OverQuota}
+use Rattle.proposal_text.specs.declared.replies.Bar.TheVariants.{NotAsked}
 use Rattle.proposal_text.specs.declared.replies.ProposalReply.TheVariants.{Barred}
-use Rattle.proposal_text.specs.Pieces.{proposal_line}
-use Rattle.secured_lines.specs.Asked.{asked_said, not_asked, said_asks, secured_asks}
-use Rattle.secured_lines.specs.Output.{secured_said}
+use Rattle.proposal_text.specs.declared.replies.ServedReply.TheVariants.{Told}
+use Rattle.secured_lines.specs.Asked.{asked_reply, not_asked, said_asks, secured_asks}
+use Rattle.secured_lines.specs.Output.{secured_reply}
 use Rattle.secured_lines.specs.SecuredState.{SecuredState, exchange_in}
 use Rattle.reply_ranges.proofs.Fields.{IsPlaced, IsPlacedIn, said_is_placed}
 use Rattle.reply_ranges.proofs.Others as others
 use Rattle.reply_ranges.proofs.Proposals.{proposed_in}
 use Rattle.reply_print.specs.Within.{IsLine}
 use Rattle.reply_ranges.proofs.SecuredServed.{StandsSecured, said_served}
-use Rattle.reply_ranges.proofs.Texts.{IsServedText, proposal_text}
+use Rattle.reply_ranges.proofs.Texts.{IsServedReply, IsServedText, proposal_text}
 
 module _ (number : ℕ) (is_line : IsLine number) (state : SecuredState) (stands : StandsSecured number state) where
   -- by what a bar refuses
-  pub barred_served : (bar : Bar) → IsServedText (proposal_line number (Barred bar) ++ 10 ∷ [])
-  barred_served NotAllowed = proposal_text number (Barred NotAllowed) (is_line, tt) tt
-  barred_served NotAsked = proposal_text number (Barred NotAsked) (is_line, tt) tt
-  barred_served OverQuota = proposal_text number (Barred OverQuota) (is_line, tt) tt
+  pub barred_served : (bar : Bar) → IsServedReply number (Told (Barred bar))
+  barred_served bar = proposal_text number (Barred bar) (is_line, tt) tt
 
   module _ (line : List ℕ) where
-    fault_served : (fault : Fault) → IsPlaced fault → IsServedText (secured_said number state line (Err fault)).0
+    fault_served : (fault : Fault) → IsPlaced fault → IsServedReply number (secured_reply state line (Err fault)).0
     fault_served fault placed =
         others.said_served number is_line (exchange_in state) stands.exchange (Err fault) tt placed
 
     -- a line that is no proposal
-    request_served : (request : Request) → said_in SERVED line ≡ Ok request → IsServedText (asked_said number state line (Ok request))
+    request_served : (request : Request) → said_in SERVED line ≡ Ok request → IsServedReply number (asked_reply state line (Ok request))
     request_served request is = by (may_be_asked request)
       where
-        by : (b : Bool) → IsServedText (if b then (secured_said number state line (Ok request)).0 else not_asked number)
+        by : (b : Bool) → IsServedReply number (if b then (secured_reply state line (Ok request)).0 else not_asked)
         by true = (said_served number is_line state stands line (Ok request) is (subst (λ (said : Result Request Fault). IfOk said RequestIsWithin) is (said_is_within SERVED line))).0
         by false = barred_served NotAsked
 
-    proposes_served : (request : ProposeRequest) (proposed : Result Proposed Fault) → IsPlacedIn proposed → IsServedText (asked_said number state line (if_proposed request proposed))
+    proposes_served : (request : ProposeRequest) (proposed : Result Proposed Fault) → IsPlacedIn proposed → IsServedReply number (asked_reply state line (if_proposed request proposed))
     proposes_served request (Ok proposed) placed = barred_served NotAsked
     proposes_served request (Err fault) placed = fault_served fault placed
 

@@ -16,18 +16,17 @@ use Rattle.form.specs.declared.orders.Batch.{Batch}
 use Rattle.limits.specs.declared.TheConstants.{MAX_LINES}
 use Rattle.reply_print.specs.Within.{IsLine, IsMarket}
 use Rattle.reply_print.proofs.Ascii.{piece_has_no_feed}
-use Rattle.proposal_text.specs.Pieces.{proposal_line, proposal_piece}
+use Rattle.proposal_text.specs.Pieces.{proposal_line, proposal_piece, served_line}
 use Rattle.proposal_text.specs.declared.replies.ProposalReply.TheVariants as told
+use Rattle.proposal_text.specs.declared.replies.ServedReply.TheVariants.{Told}
 use Rattle.proposal_text.specs.Within.{IsProposalLineWithin}
 use Rattle.proposal_text.proofs.WrittenProposals.{reply_written}
 use Rattle.proposal_check.specs.declared.covers.Proposal.{Proposal}
 use Rattle.proposals.specs.Judged.{IsJudgedBound}
 use Rattle.proposal_lines.specs.Laws.{IsRefused}
-use Rattle.proposal_lines.specs.Output.{proposing_reply_line}
 use Rattle.proposal_lines.specs.Proposed.{proposed_reply}
 use Rattle.proposal_lines.specs.Reads.{refused_by}
 use Rattle.proposal_lines.specs.declared.proposed.Proposed.{Proposed}
-use Rattle.proposal_lines.specs.declared.replies.ProposingReply.TheVariants.{Told}
 use Rattle.secured_lines.specs.Output.{secured_line, secured_said}
 use Rattle.secured_lines.specs.Laws.{state_by_lines}
 use Rattle.secured_lines.specs.SecuredState.{SecuredState, empty_secured, exchange_in}
@@ -70,7 +69,7 @@ module _ (number : ℕ) (is_line : IsLine number) (state : SecuredState) (stands
   tells_book : (line : List ℕ) → said_in SERVED line ≡ Ok (asks.Book market) → (secured_line number state line).0 ≡ proposal_line number (told.Book market live) ++ 10 ∷ []
   tells_book line is =
       ap (λ said. (secured_said number state line said).0) is
-      ∙ ap (λ first. proposing_reply_line number (option_map_or refused_by first (Told (told.Book market live))) ++ 10 ∷ []) tells
+      ∙ ap (λ first. served_line number (option_map_or refused_by first (Told (told.Book market live))) ++ 10 ∷ []) tells
 
 listed_in : (line : List ℕ) (market : ℕ) → said_in SERVED line ≡ Ok (asks.Book market) → IsMarket market
 listed_in line market is = subst (λ said. IfOk said RequestIsWithin) is (said_is_within SERVED line)
@@ -102,7 +101,7 @@ taken : (line : List ℕ) (market : ℕ) (batch : Batch) (proposal : Proposal) �
     → IsTakenFor market batch line
 taken line market batch proposal is judged number state tells same = (
   (proposed_reply state.serving.proposing (Ok proposed)).0,
-  ap (λ said. (secured_said number state line said).0) is.1 ∙ ap (λ said. proposing_reply_line number (proposed_reply state.serving.proposing said).0 ++ 10 ∷ []) is.2,
+  ap (λ said. (secured_said number state line said).0) is.1 ∙ ap (λ said. served_line number (proposed_reply state.serving.proposing said).0 ++ 10 ∷ []) is.2,
   not_refused,
 )
   where

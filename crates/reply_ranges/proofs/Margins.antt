@@ -26,8 +26,8 @@ use Rattle.proposal_text.specs.declared.needs.Need.{Need}
 use Rattle.proposal_text.specs.declared.needs.Need.TheVariants as need
 use Rattle.guarded_lines.specs.Margins.{are_many, held_by, run_in, told_of}
 use Rattle.guarded_lines.specs.Needs.{demand_in, demands_in, liability_in, liability_of, margin_budget, need_as, need_in}
-use Rattle.journal_audit.specs.AskedLines.{IsMarginWithin}
 use Rattle.proposal_text.specs.Needs.{IsNeedWithin}
+use Rattle.proposal_text.specs.Within.{IsMarginWithin}
 use Rattle.reply_print.specs.OutcomePieces.{state_entries}
 use Rattle.reply_print.specs.Within as reply
 use Rattle.form.specs.StateOf.{state_of}

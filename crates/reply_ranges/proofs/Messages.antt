@@ -27,13 +27,14 @@ use Rattle.session_lines.specs.Messages.{at_comma, message_in, message_with, num
 use Rattle.session_lines.specs.Served.{without_feed}
 use Rattle.session_lines.specs.Sessions.{BodyStep, SessionsState, after_answered, after_as, new_sessions, said_step, session_step}
 use Rattle.session_lines.specs.Texts.{accepted_text, answer_text, expecting_text, malformed_text, sessions_text}
+use Rattle.proposal_text.specs.declared.replies.ServedReply.{ServedReply}
 use Rattle.journal_audit.specs.declared.gate_lines.GateLine.{GateLine}
 use Rattle.journal_audit.specs.declared.gate_lines.GateLine.TheVariants as gate
 use Rattle.journal_audit.specs.declared.gate_lines.Why.{Why}
 use Rattle.journal_audit.specs.declared.gate_lines.Why.TheVariants as why
 use Rattle.journal_audit.specs.Accepted.{accepted_line, tail_text, question_line, question_tail}
 use Rattle.journal_audit.specs.GateLines.{IsExpected, IsGateWithin, IsSessionNumber, gate_line, gate_piece, why_number, why_word}
-use Rattle.journal_audit.specs.Laws.{IsServedLineOf, OfGate, OfServe, ServedReply, OfQuestion}
+use Rattle.journal_audit.specs.Laws.{IsServedLineOf, OfGate, OfServe, OfQuestion}
 use Rattle.journal_audit.proofs.GateTaken.{gate_written}
 use Rattle.reply_print.specs.Within.{IsLine}
 use Rattle.reply_ranges.proofs.Reports.{HasNoFeed, IsAnswered, IsOneLine}

@@ -1,5 +1,5 @@
 -- The lines of proposals, of what is read, and of clears are sound.
-use Rattle.std.proofs.Common.{◌≡◌, ℕ, ◌+◌, List, [], ◌∷◌, ◌++◌, Bool, true, false, ◌&&◌, nat_eq, drop, if◌then◌else◌, Option, Some, None, Result, Ok, Err, IfOk, refl, sym, ap, ◌∙◌, subst, arith}
+use Rattle.std.proofs.Common.{◌≡◌, ℕ, ◌+◌, List, Bool, true, false, ◌&&◌, nat_eq, drop, if◌then◌else◌, Option, Some, None, Result, Ok, Err, IfOk, refl, sym, ap, ◌∙◌, subst, arith}
 use Rattle.std.specs.Prelude.{IfSome}
 use Rattle.std.specs.List.{All}
 use Rattle.std.specs.Option.{option_map_or}
@@ -47,13 +47,14 @@ use Rattle.order_book.proofs.Accepting.{finishable, listing_live}
 use Rattle.order_book.proofs.MarketLists.{same_number}
 use Rattle.lists.specs.Refusals.{first_of}
 use Rattle.settlement.specs.declared.position.Position.{Position}
-use Rattle.reply_print.specs.ReplyPieces.{reply_line}
 use Rattle.reply_print.specs.Within.{IsLine}
 use Rattle.reply_print.specs.Within as reply
 use Rattle.proposal_text.specs.declared.replies.BoundedOutcome.{BoundedOutcome}
 use Rattle.proposal_text.specs.declared.replies.StopReason.{StopReason}
 use Rattle.proposal_text.specs.declared.replies.FailureKind.TheVariants as failed
 use Rattle.proposal_text.specs.declared.replies.ProposalReply.TheVariants as told
+use Rattle.proposal_text.specs.declared.replies.ServedReply.{ServedReply}
+use Rattle.proposal_text.specs.declared.replies.ServedReply.TheVariants.{Plain, Told}
 use Rattle.proposal_text.specs.declared.submissions.Submission.{Submission}
 use Rattle.proposal_text.specs.Submissions.{IsTextOf, submission_of}
 use Rattle.proposal_text.specs.Within.{AreRising, IsPositionWithin, IsProposalWithin}
@@ -64,14 +65,12 @@ use Rattle.proposals.specs.declared.best.Best.{Best}
 use Rattle.proposal_lines.specs.Clears.{better_in, bounded_effect, charge_effect, clear_reply, cleared_by, reference_in}
 use Rattle.proposal_lines.specs.KeptByMarket.{best_in, bounded_as, bounded_in, kept_in, stop_of}
 use Rattle.proposal_lines.specs.Laws.{IsClearedAs, IsSound}
-use Rattle.proposal_lines.specs.Output.{proposing_reply_line, settlement_reply}
+use Rattle.proposal_lines.specs.Output.{settlement_reply}
 use Rattle.proposal_lines.specs.Proposed.{for_market, judged_effect, kept_by, offered, proposed_by, proposed_of, proposed_reply, stale_effect, unproved_effect}
 use Rattle.proposal_lines.specs.ProposingState.{ProposingState}
-use Rattle.proposal_lines.specs.Reads.{book_refusals, book_reply, positions_refusals, positions_reply, refused_by, refused_by_fault, unless_refused}
+use Rattle.proposal_lines.specs.Reads.{book_refusals, book_reply, positions_refusals, positions_reply, refused_by, refused_by_fault}
 use Rattle.proposal_lines.specs.Trials.{trial_of, trial_reply}
 use Rattle.proposal_lines.specs.declared.proposed.Proposed.{Proposed}
-use Rattle.proposal_lines.specs.declared.replies.ProposingReply.{ProposingReply}
-use Rattle.proposal_lines.specs.declared.replies.ProposingReply.TheVariants.{Told}
 use Rattle.proposal_lines.proofs.Clearing.{batch_is, better_bound, bounded_has, bounded_units, chosen, clears_are_proved}
 use Rattle.proposal_lines.proofs.Kept.{ended_has, offered_proved, without_has}
 use Rattle.quote_lines.specs.Refusals.{info_refusals, quote_refusals}
@@ -82,8 +81,8 @@ use Rattle.reply_ranges.proofs.Refusals.{IsOne, IsTold, of_book, of_ledger, refu
 use Rattle.reply_ranges.proofs.States.{IsNumbered, IsStanding, batch_is_within, batch_ranged, live_ranged}
 use Rattle.reply_ranges.proofs.Fields.{IsPlaced, IsPlacedIn}
 use Rattle.reply_ranges.proofs.Kept.{AreKeptWithin, IsBestWithin, best_within, offer_within, told_in_order}
-use Rattle.reply_ranges.proofs.Others.{first_served, info_told, one_told, refusal_served, run_served}
-use Rattle.reply_ranges.proofs.Texts.{IsServedText, proposal_text}
+use Rattle.reply_ranges.proofs.Others.{first_served, info_told, one_told, refusal_served, run_served, unless_served}
+use Rattle.reply_ranges.proofs.Texts.{IsServedReply, proposal_text}
 
 -- ---- what is proposed is within its ranges
 abbrev pub IsProposedWithin : Proposed → Type 0
@@ -154,14 +153,8 @@ module _ (number : ℕ) (is_line : IsLine number) (state : ProposingState) (stan
   abbrev exchange : ExchangeState
   exchange = state.exchange
 
-  abbrev IsServedReply : ProposingReply → Type 0
-  IsServedReply reply = IsServedText (proposing_reply_line number reply ++ 10 ∷ [])
-
-  refused_served : (first : Refusal) → IsTold first → IsServedReply (refused_by first)
+  refused_served : (first : Refusal) → IsTold first → IsServedReply number (refused_by first)
   refused_served = refusal_served number is_line exchange stands
-
-  one_served : (refusals : List (Bool × Refusal)) (first : Refusal) → All IsOne refusals → first_of refusals ≡ Some first → IsServedReply (refused_by first)
-  one_served = first_served number is_line exchange stands
 
   -- the live orders of a market that is there
   live_within : (market : ℕ) → first_of (by_book (live_refusals exchange.book market)) ≡ None
@@ -178,38 +171,31 @@ module _ (number : ℕ) (is_line : IsLine number) (state : ProposingState) (stan
       λ k d inside. position_within exchange account market _ (numbered k d inside) (kept k d inside) (filter_passes own exchange.positions k d inside)
 
   -- what is read
-  unless_served : (refusals : List (Bool × Refusal)) (reply : ProposingReply) → All IsOne refusals → (first_of refusals ≡ None → IsServedReply reply) → IsServedReply (unless_refused refusals reply)
-  unless_served refusals reply are_told is = by (first_of refusals) refl
-    where
-      by : (r : Option Refusal) → first_of refusals ≡ r → IsServedReply (option_map_or refused_by r reply)
-      by (Some first) e = one_served refusals first are_told e
-      by None none = is none
-
-  pub book_served : (market : ℕ) → IsMarket market → IsServedReply (book_reply exchange market)
+  pub book_served : (market : ℕ) → IsMarket market → IsServedReply number (book_reply exchange market)
   book_served market listed =
-      unless_served (book_refusals exchange market) (Told (told.Book market (batch_in exchange market))) (of_book (live_refusals exchange.book market))
+      unless_served number is_line exchange stands (book_refusals exchange market) (Told (told.Book market (batch_in exchange market))) (of_book (live_refusals exchange.book market))
       (λ none. let live = live_within market none in proposal_text number (told.Book market (batch_in exchange market)) (is_line, (listed, live.0, live.1)) tt)
 
-  pub positions_served : (account market : ℕ) → IsAccount account → IsMarket market → IsServedReply (positions_reply exchange account market)
+  pub positions_served : (account market : ℕ) → IsAccount account → IsMarket market → IsServedReply number (positions_reply exchange account market)
   positions_served account market some listed =
       let held = positions_of account market exchange.positions in
       let own = account_refusals exchange.accounts account in
-      unless_served (positions_refusals exchange account market) (Told (told.Positions account market held))
+      unless_served number is_line exchange stands (positions_refusals exchange account market) (Told (told.Positions account market held))
       (All-append IsOne (book_refusals exchange market) (by_ledger own) (of_book (live_refusals exchange.book market)) (of_ledger own))
       (λ none. proposal_text number (told.Positions account market held) (is_line, (some, listed, recursion_from_All (IsPositionWithin account market) held (held_all account market))) tt)
 
-  pub trial_served : (request : TryRequest) → IsTryWithin request → IsServedReply (trial_reply exchange request)
+  pub trial_served : (request : TryRequest) → IsTryWithin request → IsServedReply number (trial_reply exchange request)
   trial_served request within =
       let quote = request.quote in
       let info = info_in exchange.book quote.market in
       let tried = tried_for (batch_in exchange quote.market) request in
-      unless_served (quote_refusals exchange.book quote) (Told (told.Tried quote.market (trial_of tried)))
+      unless_served number is_line exchange stands (quote_refusals exchange.book quote) (Told (told.Tried quote.market (trial_of tried)))
       (All-append IsOne (info_refusals info quote) _ (info_told info quote) (one_told _ refusal.TooMany ((omega arith, omega arith), refl)))
       (λ none.
       let filled = tried_orders_are_filled exchange request stands.running.kept within none in
       proposal_text number (told.Tried quote.market (trial_of tried)) (is_line, (within.quote.market, filled.fill.1, filled.covered.not_below_zero)) tt)
 
-  fault_served : (fault : Fault) → IsPlaced fault → IsServedReply (refused_by_fault fault)
+  fault_served : (fault : Fault) → IsPlaced fault → IsServedReply number (refused_by_fault fault)
   fault_served Syntax is = refused_served refusal.Syntax ((omega arith, omega arith), refl)
   fault_served (Range place) is = refused_served (refusal.Range place) ((omega arith, omega arith), is)
 
@@ -222,7 +208,7 @@ module _ (number : ℕ) (is_line : IsLine number) (state : ProposingState) (stan
     AreSame b = are_same_orders proposed.submission.orders (numbers_of m.live) ≡ b
 
     value_served : AreSame true → (B : Fraction) → bound ≡ Ok B → (b : Bool) → (is_lowest B && has_128_bits B) ≡ b
-        → IsServedReply (Told (option_map_or (kept_by state.kept proposed) (if b then Some (value_of B) else None) (unproved_effect state.kept failed.Wide)).0)
+        → IsServedReply number (Told (option_map_or (kept_by state.kept proposed) (if b then Some (value_of B) else None) (unproved_effect state.kept failed.Wide)).0)
     value_served same B judged true is =
         let proves = judged ∙ ap Ok (sym (fraction_is B is)) in
         let stays = offered_proved exchange.book proposed.market m found sound.kept.orders.book proposed.submission.orders same proposed.submission.proposal (value_of B) proves state.kept sound.proved in
@@ -230,21 +216,21 @@ module _ (number : ℕ) (is_line : IsLine number) (state : ProposingState) (stan
         proposal_text number (kept_by state.kept proposed (value_of B)).0 (is_line, (within.0, ordered)) tt
     value_served same B judged false is = proposal_text number (told.Unproved failed.Wide) (is_line, tt) tt
 
-    judged_served : AreSame true → (r : Result Fraction Reason) → bound ≡ r → IsServedReply (Told (judged_effect state.kept proposed r).0)
+    judged_served : AreSame true → (r : Result Fraction Reason) → bound ≡ r → IsServedReply number (Told (judged_effect state.kept proposed r).0)
     judged_served same (Err reason) is = proposal_text number (judged_effect state.kept proposed (Err reason)).0 (is_line, tt) tt
     judged_served same (Ok B) is = value_served same B is (is_lowest B && has_128_bits B) refl
 
-    offered_served : (batch : Batch) → batch ≡ batch_of m → IsServedReply (Told (offered state.kept proposed batch).0)
+    offered_served : (batch : Batch) → batch ≡ batch_of m → IsServedReply number (Told (offered state.kept proposed batch).0)
     offered_served batch is =
-        subst (λ (b : Batch). IsServedReply (Told (offered state.kept proposed b).0)) (sym is) (by (are_same_orders proposed.submission.orders (numbers_of m.live)) refl)
+        subst (λ (b : Batch). IsServedReply number (Told (offered state.kept proposed b).0)) (sym is) (by (are_same_orders proposed.submission.orders (numbers_of m.live)) refl)
       where
-        by : (t : Bool) → AreSame t → IsServedReply (Told (if t then judged_effect state.kept proposed bound else stale_effect state.kept).0)
+        by : (t : Bool) → AreSame t → IsServedReply number (Told (if t then judged_effect state.kept proposed bound else stale_effect state.kept).0)
         by true same = judged_served same bound refl
         by false same = proposal_text number told.Stale (is_line, tt) tt
 
   -- a sound line, and what is kept is within its ranges
-  abbrev IsServedNow : ProposingReply × ProposingState → Type 0
-  IsServedNow now = IsServedReply now.0 × AreKeptWithin now.1.kept
+  abbrev IsServedNow : ServedReply × ProposingState → Type 0
+  IsServedNow now = IsServedReply number now.0 × AreKeptWithin now.1.kept
 
   pub proposed_served : (said : Result Proposed Fault) → IsProposedIn said → IsServedNow (proposed_reply state said)
   proposed_served (Err fault) within = (fault_served fault within.1, are)
@@ -254,7 +240,7 @@ module _ (number : ℕ) (is_line : IsLine number) (state : ProposingState) (stan
       refusals = by_book (live_refusals exchange.book proposed.market)
 
       by : (r : Option Refusal) → first_of refusals ≡ r → IsServedNow (option_map_or (λ first. (refused_by first, state)) r (proposed_by state proposed))
-      by (Some first) is = (one_served refusals first (of_book (live_refusals exchange.book proposed.market)) is, are)
+      by (Some first) is = (first_served number is_line exchange stands refusals first (of_book (live_refusals exchange.book proposed.market)) is, are)
       by None none =
           let batch = batch_in exchange proposed.market in
           let (m, found, unsettled) = listing_live exchange.book proposed.market (live_none exchange.book proposed.market none) in
@@ -283,7 +269,7 @@ module _ (number : ℕ) (is_line : IsLine number) (state : ProposingState) (stan
     reference_served : IsServedNow (charge_effect state market (reference_in state market budget) None)
     reference_served =
         let run = run_served number is_line exchange stands (body.Command (Clear market budget)) (listed, units) tt in (
-          subst (λ r. IsServedText (reply_line number (option_map_or (refusal_effect exchange) r (clear_effect exchange market budget)).0 ++ 10 ∷ [])) accepted run,
+          subst (λ r. IsServedReply number (Plain (option_map_or (refusal_effect exchange) r (clear_effect exchange market budget)).0)) accepted run,
           without_has IsBestWithin market state.kept are,
         )
 

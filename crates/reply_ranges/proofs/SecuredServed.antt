@@ -1,6 +1,6 @@
 -- Each line of `serve` is sound where accounts may be secured, and what is left stands before the
 -- next one.
-use Rattle.std.proofs.Common.{◌≡◌, ℕ, ◌+◌, ◌≤◌, List, [], ◌∷◌, ◌++◌, Bool, true, false, not, ◌&&◌, is_none, length, nat_le, if◌then◌else◌, Option, Some, None, Result, Ok, Err, refl, sym, subst, arith}
+use Rattle.std.proofs.Common.{◌≡◌, ℕ, ◌+◌, ◌≤◌, List, [], ◌∷◌, Bool, true, false, not, ◌&&◌, is_none, length, nat_le, if◌then◌else◌, Option, Some, None, Result, Ok, Err, refl, sym, subst, arith}
 use Rattle.std.specs.Prelude.{IfOk}
 use Rattle.std.specs.Option.{option_map_or}
 use Rattle.std.proofs.lemmas.Bool.{leb-true}
@@ -34,15 +34,13 @@ use Rattle.exchange_lines.specs.LineSteps.{InputLine}
 use Rattle.frac.specs.Range.{limit as largest}
 use Rattle.lists.specs.Refusals.{first_of}
 use Rattle.proposal_lines.specs.Laws.{IsSound}
-use Rattle.proposal_lines.specs.Output.{proposing_reply_line}
-use Rattle.proposal_lines.specs.declared.replies.ProposingReply.{ProposingReply}
 use Rattle.proposal_text.specs.Needs.{IsNeedWithin}
-use Rattle.proposal_text.specs.declared.replies.AccountReply.TheVariants as account_reply
-use Rattle.proposal_text.specs.declared.replies.ProposalReply.TheVariants.{Account}
+use Rattle.proposal_text.specs.declared.replies.ProposalReply.TheVariants as told
+use Rattle.proposal_text.specs.declared.replies.ServedReply.{ServedReply}
 use Rattle.reply_print.specs.Within.{IsLine}
 use Rattle.secured_accounts.specs.Secured.{account_of, is_enough, is_secured, need_above, need_in, risked_by, told_need as what_is_told, uncovered, uncovered_by}
 use Rattle.secured_accounts.specs.declared.refusal.SecuringRefusal.TheVariants.{Exchange, Uncovered}
-use Rattle.secured_lines.specs.Output.{command_line, handed_on, kept_from, need_reply, secure_reply, secured_line, secured_said, withdrawn, written_reply}
+use Rattle.secured_lines.specs.Output.{command_reply, handed_on, kept_from, need_reply, secure_reply, secured_line, secured_reply, withdrawn}
 use Rattle.secured_lines.specs.Replies.{need_answered, refused_by, secure_answered, told_need, uncovered_reply}
 use Rattle.secured_lines.specs.SecuredState.{SecuredState, exchange_in}
 use Rattle.secured_lines.proofs.LineKinds.{by_answer, by_kind}
@@ -51,7 +49,7 @@ use Rattle.reply_ranges.proofs.Others.{refusal_served, run_served}
 use Rattle.reply_ranges.proofs.ServedLines.{passes, run_stands}
 use Rattle.reply_ranges.proofs.ServingLines.{StandsServing, serving_answers}
 use Rattle.reply_ranges.proofs.States.{IsStanding, balance_ranged, later_ranged}
-use Rattle.reply_ranges.proofs.Texts.{IsServedText, proposal_text}
+use Rattle.reply_ranges.proofs.Texts.{IsServedReply, IsServedText, proposal_text}
 
 -- ---- needs are within the limit
 need_below : (so_far spent : ℕ) (markets : List Portfolio) (amount : ℕ) → so_far ≤ largest → need_from so_far spent markets ≡ Ok amount → amount ≤ largest
@@ -113,58 +111,55 @@ StandsSecured number state = StandsServing number state.serving
 pub passes_secured : (number : ℕ) (state : SecuredState) → StandsSecured number state → StandsSecured (number + 1) state
 passes_secured number state = passes number state.serving.proposing
 
--- ---- what is written for a line
+-- ---- the reply to a line
 module _ (number : ℕ) (is_line : IsLine number) (state : SecuredState) (stands : StandsSecured number state) where
   abbrev exchange : ExchangeState
   exchange = exchange_in state
 
-  abbrev IsServedReply : ProposingReply → Type 0
-  IsServedReply reply = IsServedText (proposing_reply_line number reply ++ 10 ∷ [])
-
   -- where the state after it is sound
-  abbrev IsServedNow : List ℕ × SecuredState → Type 0
-  IsServedNow now = IsServedText now.0 × (IsSound now.1.serving.proposing → StandsSecured (number + 1) now.1)
+  abbrev IsServedNow : ServedReply × SecuredState → Type 0
+  IsServedNow now = IsServedReply number now.0 × (IsSound now.1.serving.proposing → StandsSecured (number + 1) now.1)
 
   stays : StandsSecured (number + 1) state
   stays = passes_secured number state stands
 
-  uncovered_served : (need : Need) → IsNeedWithin (told_need need) → IsServedReply (uncovered_reply need)
-  uncovered_served need is = proposal_text number (Account (account_reply.Uncovered (told_need need))) (is_line, is) tt
+  uncovered_served : (need : Need) → IsNeedWithin (told_need need) → IsServedReply number (uncovered_reply need)
+  uncovered_served need is = proposal_text number (told.Uncovered (told_need need)) (is_line, is) tt
 
-  no_account : IsServedReply (refused_by (Exchange refusal.NoAccount))
+  no_account : IsServedReply number (refused_by (Exchange refusal.NoAccount))
   no_account = refusal_served number is_line exchange stands.exchange refusal.NoAccount ((omega arith, omega arith), refl)
 
   -- ---- an account that is to be secured
-  done_served : (account : ℕ) → IsAccount account → (need : Need) → IsNeedWithin (told_need need) → IsServedReply (secure_answered account (Ok need))
-  done_served account own (Ok amount) is = proposal_text number (Account (account_reply.Secured account amount)) (is_line, (own, is)) tt
+  done_served : (account : ℕ) → IsAccount account → (need : Need) → IsNeedWithin (told_need need) → IsServedReply number (secure_answered account (Ok need))
+  done_served account own (Ok amount) is = proposal_text number (told.Secured account amount) (is_line, (own, is)) tt
   done_served account own (Err w) is = uncovered_served (Err w) is
 
   secure_by : (account : ℕ) → IsAccount account → (opened enough : Bool)
-      → IsServedReply (secure_answered account (option_map_or (λ refusal. Err refusal)
+      → IsServedReply number (secure_answered account (option_map_or (λ refusal. Err refusal)
       (first_of ((not opened, Exchange refusal.NoAccount) ∷ (not enough, Uncovered (need_in exchange account)) ∷ [])) (Ok (need_in exchange account))))
   secure_by account own false enough = no_account
   secure_by account own true false = uncovered_served (need_in exchange account) (need_within exchange account)
   secure_by account own true true = done_served account own (need_in exchange account) (need_within exchange account)
 
-  secure_served : (account : ℕ) → IsAccount account → IsServedNow (written_reply number (secure_reply state account))
+  secure_served : (account : ℕ) → IsAccount account → IsServedNow (secure_reply state account)
   secure_served account own = (secure_by account own (is_open exchange.accounts account) (is_enough exchange account), λ sound. stays)
 
   -- ---- what an account needs
   need_by : (account : ℕ) → IsAccount account → (opened : Bool)
-      → IsServedReply (need_answered account (option_map_or (λ refusal. Err refusal) (first_of ((not opened, Exchange refusal.NoAccount) ∷ [])) (Ok (what_is_told state.secured exchange account))))
+      → IsServedReply number (need_answered account (option_map_or (λ refusal. Err refusal) (first_of ((not opened, Exchange refusal.NoAccount) ∷ [])) (Ok (what_is_told state.secured exchange account))))
   need_by account own false = no_account
   need_by account own true =
       let small = balance_ranged number exchange stands.exchange is_line exchange account refl (later_ranged number (number + 1) exchange (omega arith) stands.exchange.ranged) in
       proposal_text number
-      (Account (account_reply.Needs (record {
+      (told.Needs (record {
         account = account;
         balance = balance_of account exchange.entries;
         need = told_need (need_in exchange account);
         secured = is_secured state.secured account;
-      })))
+      }))
       (is_line, (own, small, need_within exchange account)) tt
 
-  need_served : (account : ℕ) → IsAccount account → IsServedNow (written_reply number (need_reply state account, state))
+  need_served : (account : ℕ) → IsAccount account → IsServedNow (need_reply state account, state)
   need_served account own = (need_by account own (is_open exchange.accounts account), λ sound. stays)
 
   -- ---- a line
@@ -172,13 +167,13 @@ module _ (number : ℕ) (is_line : IsLine number) (state : SecuredState) (stands
     abbrev asked : InputLine
     asked = record { number = number; bytes = line }
 
-    handed_served : (said : Result Request Fault) → said_in SERVED line ≡ said → IsServedNow (handed_on number state line said)
+    handed_served : (said : Result Request Fault) → said_in SERVED line ≡ said → IsServedNow (handed_on state line said)
     handed_served said is =
         let now = serving_answers number is_line state.serving stands line in
-        subst (λ (said : Result Request Fault). IsServedNow (handed_on number state line said)) is (now.0, λ sound. now.1)
+        subst (λ (said : Result Request Fault). IsServedNow (handed_on state line said)) is (now.0, λ sound. now.1)
 
     withdrawn_served : (command : Command) → said_in SERVED line ≡ Ok (asks.Command command) → IsWithin command
-        → (account amount : ℕ) → command ≡ Withdraw account amount → IsServedNow (withdrawn number state account amount)
+        → (account amount : ℕ) → command ≡ Withdraw account amount → IsServedNow (withdrawn state account amount)
     withdrawn_served command says within account amount is =
         let out : Command = Withdraw account amount in
         let own : IsWithin out = subst IsWithin is within in
@@ -193,18 +188,18 @@ module _ (number : ℕ) (is_line : IsLine number) (state : SecuredState) (stands
         )
 
     command_served : (command : Command) → said_in SERVED line ≡ Ok (asks.Command command) → IsWithin command
-        → IsServedNow (command_line number state line command)
+        → IsServedNow (command_reply state line command)
     command_served command says within =
-        by_answer IsServedNow number state line command
+        by_answer IsServedNow state line command
         (λ need kept. (uncovered_served need (kept_within state command need kept), λ sound. stays))
         (λ free account amount is own. withdrawn_served command says within account amount is)
         (λ free. handed_served (Ok (asks.Command command)) says)
 
-    pub said_served : (said : Result Request Fault) → said_in SERVED line ≡ said → IfOk said RequestIsWithin → IsServedNow (secured_said number state line said)
+    pub said_served : (said : Result Request Fault) → said_in SERVED line ≡ said → IfOk said RequestIsWithin → IsServedNow (secured_reply state line said)
     said_served =
-        by_kind (λ said. said_in SERVED line ≡ said → IfOk said RequestIsWithin → IsServedNow (secured_said number state line said))
+        by_kind (λ said. said_in SERVED line ≡ said → IfOk said RequestIsWithin → IsServedNow (secured_reply state line said))
         (λ account is within. secure_served account within) (λ account is within. need_served account within) command_served
-        (λ said other is within. subst IsServedNow (sym (other.handed number state line)) (handed_served said is))
+        (λ said other is within. subst IsServedNow (sym (other.handed state line)) (handed_served said is))
 
     pub secured_answers : IsServedText (secured_line number state line).0 × StandsSecured (number + 1) (secured_line number state line).1
     secured_answers =

@@ -24,9 +24,10 @@ use Rattle.exchange_lines.specs.Moves.{clears}
 use Rattle.exchange_lines.proofs.RunStates.{step_runs}
 use Rattle.exchange_lines.proofs.GainSteps.{move_steps}
 use Rattle.proposal_text.specs.declared.replies.BoundedOutcome.{BoundedOutcome}
+use Rattle.proposal_text.specs.declared.replies.ServedReply.{ServedReply}
 use Rattle.reply_print.specs.Within.{IsLine}
 use Rattle.proposal_lines.specs.Laws.{IsSound}
-use Rattle.proposal_lines.specs.Output.{proposing_line, served_line}
+use Rattle.proposal_lines.specs.Output.{proposing_line, proposing_reply}
 use Rattle.proposal_lines.specs.Promises.{IsToldFor, KeepsProposalPromises, ProposalAnswer, beside, bounded, charged, replied, taken}
 use Rattle.proposal_lines.specs.Proposed.{proposed_of}
 use Rattle.proposal_lines.specs.ProposingState.{ProposingState, empty_state}
@@ -38,7 +39,7 @@ use Rattle.reply_ranges.proofs.Fields.{IsPlacedIn, said_is_placed}
 use Rattle.reply_ranges.proofs.Kept.{AreKeptWithin, IsBestWithin}
 use Rattle.reply_ranges.proofs.Others.{said_served}
 use Rattle.reply_ranges.proofs.Proposals.{book_served, clear_served, positions_served, proposed_in, proposed_served, settle_served, trial_served}
-use Rattle.reply_ranges.proofs.Texts.{IsServedText}
+use Rattle.reply_ranges.proofs.Texts.{IsServedReply, IsServedText}
 
 -- before the line of a number
 pub record Stands (number : ℕ) (state : ProposingState) : Type 0 where
@@ -88,14 +89,14 @@ module _ (number : ℕ) (state : ProposingState) (line : InputLine) (sound : IsS
   told_stands (taken answer) after told promise = subst (IsStanding (number + 1)) (sym told.exchange) unchanged
   told_stands (beside own text) after told promise = subst (IsStanding (number + 1)) (sym told.exchange) unchanged
 
--- ---- what is written for a line
+-- ---- the reply to a line
 module _ (number : ℕ) (is_line : IsLine number) (state : ProposingState) (stands : Stands number state) where
-  abbrev IsServedNow : List ℕ × ProposingState → Type 0
-  IsServedNow now = IsServedText now.0 × AreKeptWithin now.1.kept
+  abbrev IsServedNow : ServedReply × ProposingState → Type 0
+  IsServedNow now = IsServedReply number now.0 × AreKeptWithin now.1.kept
 
   -- by what it says
   abbrev IsSaidNow : List ℕ → Result Request Fault → Type 0
-  IsSaidNow line said = IfOk said RequestIsWithin → IsPlacedIn said → IsServedNow (served_line number state line said)
+  IsSaidNow line said = IfOk said RequestIsWithin → IsPlacedIn said → IsServedNow (proposing_reply state line said)
 
   said_now : (line : List ℕ) (said : Result Request Fault) → IsSaidNow line said
   said_now line =
@@ -109,10 +110,10 @@ module _ (number : ℕ) (is_line : IsLine number) (state : ProposingState) (stan
       (positions_served number is_line state stands.exchange stands.sound stands.kept account market within.0 within.1, stands.kept))
       (λ request within placed. (trial_served number is_line state stands.exchange stands.sound stands.kept request within, stands.kept))
       (λ said other within placed.
-      subst IsServedNow (sym (other.served number state line))
+      subst IsServedNow (sym (other.served state line))
       (said_served number is_line state.exchange stands.exchange said within placed, stands.kept))
 
-  line_now : (line : List ℕ) → IsServedNow (proposing_line number state line)
+  line_now : (line : List ℕ) → IsServedNow (proposing_reply state line (said_in SERVED line))
   line_now line = said_now line (said_in SERVED line) (said_is_within SERVED line) (said_is_placed SERVED line)
 
   pub answers : (line : List ℕ) → IsServedText (proposing_line number state line).0 × Stands (number + 1) (proposing_line number state line).1

@@ -13,14 +13,13 @@ use Rattle.reply_print.specs.Within.{IsWithin}
 use Rattle.reply_print.specs.Written.{is_plain, is_plain_byte}
 use Rattle.reply_print.proofs.Ascii.{line_has_no_feed, piece_has_no_feed}
 use Rattle.proposal_text.specs.declared.replies.ProposalReply.{ProposalReply}
-use Rattle.proposal_text.specs.Pieces.{proposal_line, proposal_piece}
+use Rattle.proposal_text.specs.declared.replies.ServedReply.{ServedReply}
+use Rattle.proposal_text.specs.declared.replies.ServedReply.TheVariants.{Plain, Told}
+use Rattle.proposal_text.specs.Pieces.{proposal_line, proposal_piece, served_line}
 use Rattle.proposal_text.specs.Within.{IsProposalLineWithin}
 use Rattle.proposal_text.proofs.WrittenProposals.{reply_written as proposal_written}
-use Rattle.journal_audit.specs.declared.asked_replies.AskedReply.{AskedReply}
-use Rattle.journal_audit.specs.AskedLines.{IsAskedLineWithin, asked_line, asked_piece}
-use Rattle.journal_audit.proofs.AskedExactly.{asked_written}
 use Rattle.journal_check.specs.Laws.{IfCleared, IsCertified}
-use Rattle.journal_audit.specs.Laws.{IfBounded, IsServedLineOf, OfAsked, OfProposals, OfRun, OfServe, ServedReply}
+use Rattle.journal_audit.specs.Laws.{IfBounded, IsServedLineOf, OfServe}
 use Rattle.reply_ranges.proofs.Reports.{HasNoFeed, IsOneLine}
 
 -- ---- plain texts have no line feed
@@ -51,6 +50,9 @@ pub record IsServedText (bytes : List ℕ) : Type 0 where
   pub served : IsServedLineOf text reply
   pub one : HasNoFeed text
 
+abbrev pub IsServedReply : ℕ → ServedReply → Type 0
+IsServedReply number reply = IsServedText (served_line number reply ++ 10 ∷ [])
+
 -- as a line of its own
 pub as_line : (bytes : List ℕ) → IsServedText bytes → IsOneLine bytes
 as_line bytes own = record { text = own.text; is = own.is; accepted = record { sound = record { reply = OfServe own.reply; is_line = inl own.served }; one = own.one } }
@@ -73,29 +75,20 @@ certified (Settled market lapsed payouts) h = tt
 certified (Balance account balance reserved) h = tt
 certified (Refused number place) h = tt
 
-pub run_text : (number : ℕ) (reply : Reply) → IsWithin number reply → core.IfCleared IsJudgedYes reply → IsServedText (reply_line number reply ++ 10 ∷ [])
+pub run_text : (number : ℕ) (reply : Reply) → IsWithin number reply → core.IfCleared IsJudgedYes reply → IsServedReply number (Plain reply)
 run_text number reply within judged = record {
   text = reply_line number reply;
   is = refl;
-  reply = OfRun reply;
+  reply = Plain reply;
   served = record { line = number; is_line = (within, refl); certified = certified reply judged };
   one = line_has_no_feed number reply within;
 }
 
-pub proposal_text : (number : ℕ) (reply : ProposalReply) → IsProposalLineWithin number reply → IfBounded reply → IsServedText (proposal_line number reply ++ 10 ∷ [])
+pub proposal_text : (number : ℕ) (reply : ProposalReply) → IsProposalLineWithin number reply → IfBounded reply → IsServedReply number (Told reply)
 proposal_text number reply within proved = record {
   text = proposal_line number reply;
   is = refl;
-  reply = OfProposals reply;
+  reply = Told reply;
   served = record { line = number; is_line = (within, refl); proved = proved };
   one = piece_has_no_feed 6 (proposal_piece number reply) (proposal_written number reply within);
-}
-
-pub asked_text : (number : ℕ) (reply : AskedReply) → IsAskedLineWithin number reply → IsServedText (asked_line number reply ++ 10 ∷ [])
-asked_text number reply within = record {
-  text = asked_line number reply;
-  is = refl;
-  reply = OfAsked reply;
-  served = (number, (within, refl));
-  one = piece_has_no_feed 6 (asked_piece number reply) (asked_written number reply within);
 }

@@ -11,9 +11,9 @@ use Rattle.lists.specs.Refusals.{first_of}
 use Rattle.live_lines.specs.Open.{IsOneLine, line_text}
 use Rattle.live_lines.specs.Serving.{IsInputWithin}
 use Rattle.proposal_lines.specs.Laws.{IsRefused}
-use Rattle.proposal_lines.specs.Output.{proposing_reply_line}
 use Rattle.proposal_lines.specs.Reads.{book_refusals}
-use Rattle.proposal_lines.specs.declared.replies.ProposingReply.{ProposingReply}
+use Rattle.proposal_text.specs.Pieces.{served_line}
+use Rattle.proposal_text.specs.declared.replies.ServedReply.{ServedReply}
 use Rattle.secured_lines.specs.Output.{secured_line}
 use Rattle.secured_lines.specs.Laws.{state_by_lines}
 use Rattle.secured_lines.specs.SecuredState.{SecuredState, empty_secured, exchange_in}
@@ -49,7 +49,7 @@ BooksAreTold =
 abbrev pub IsTakenFor : ℕ → Batch → List ℕ → Type 0
 IsTakenFor market batch line =
     (number : ℕ) (state : SecuredState) → TellsLive state market → batch_in (exchange_in state) market ≡ batch
-    → (reply : ProposingReply) × ((secured_line number state line).0 ≡ proposing_reply_line number reply ++ 10 ∷ []) × ¬ (IsRefused reply)
+    → (reply : ServedReply) × ((secured_line number state line).0 ≡ served_line number reply ++ 10 ∷ []) × ¬ (IsRefused reply)
 
 -- what is written for a book is one such line, as short as an exchange takes it
 abbrev pub BooksAreProposedFor : Type 0
