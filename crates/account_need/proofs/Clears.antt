@@ -28,6 +28,7 @@ use Rattle.settlement.proofs.Quotients.{ceil_least}
 use Rattle.portfolio_margin.specs.Owed.{fill_of, fills_of, owed_by, owed_over}
 use Rattle.account_need.specs.Exposure.{Portfolio, IsEnough, cost_by, loss_at, losses_at, reserve_for, reserve_of, asked_by}
 use Rattle.account_need.specs.Moves.{OrderFill, Held, ClearsKeep, IsFilled, held_by, held_of, is_some_fill, order_in, premium_got, premiums_got}
+use Rattle.account_need.proofs.OwingAmounts.{owed_of_both}
 use Rattle.account_need.proofs.Portfolios.{portfolio, portfolio_is}
 
 abbrev Divides : ℕ → Fraction → Type 0
@@ -193,10 +194,6 @@ few_held fills held is =
     omega (arith, same, length-map held held_of, length-map some held_by, length-filter_both is_some_fill (λ fill. not (is_some_fill fill)) (λ fill. refl) fills)
 
 -- ---- the clear
-owed-append : (D : ℕ) (ps qs : List Position) (z : List ℕ) → owed_over D (ps ++ qs) z ≡ owed_over D ps z +ℤ owed_over D qs z
-owed-append D [] qs z = omega (arith, ints)
-owed-append D (p ∷ ps) qs z = omega (arith, ints, owed-append D ps qs z)
-
 parts_of : (D : ℕ) (ps qs : List Position) → All (Divides D) (fills_of (ps ++ qs)) → All (Divides D) (fills_of ps) × All (Divides D) (fills_of qs)
 parts_of D [] qs h = (All-nil (Divides D), h)
 parts_of D (p ∷ ps) qs h =
@@ -233,7 +230,7 @@ cleared n ps held fills balance is filled e =
           let parts = parts_of D ps held den.divides in
           let owed = all_owed D t s fills held is filled parts.1 in
           let before = e.covers t s box D (record { some = den.some; divides = parts.0 }) in
-          subst (λ (o : ℤ). (o +ℤ pos (D * 0)) ≤ℤ ((e.bound +ℤ pos more) *ℤ pos (D * t))) (sym (owed-append D ps held (t ∷ s)))
+          subst (λ (o : ℤ). (o +ℤ pos (D * 0)) ≤ℤ ((e.bound +ℤ pos more) *ℤ pos (D * t))) (sym (owed_of_both D ps held (t ∷ s)))
           (covered (owed_over D ps (t ∷ s)) (owed_over D held (t ∷ s)) e.bound D t (losses_at (t ∷ s) (map order_in fills)) more before owed);
       asked = subst (λ (b : ℤ). pos (asked_by (portfolio n (ps ++ held) []) (e.bound +ℤ pos more)) ≤ℤ (balance +ℤ b)) (sym (premiums_are fills))
           (subst (λ (k : ℕ). pos (0 + positive_part ((e.bound +ℤ pos more) +ℤ pos (k + 2 * 0))) ≤ℤ (balance +ℤ (pos (all_got fills) -ℤ pos (all_paid fills)))) (sym size) amount);

@@ -1,19 +1,14 @@
 -- On one underlying, what holds at the two ends of the box and wherever a payoff bends holds of two
 -- states between which a given state lies and no payoff bends: the two are moved together, option by
 -- option.
-use Rattle.std.proofs.Common.{◌≡◌, ℕ, zero, suc, ◌+◌, ◌-◌, ◌*◌, ◌≤◌, inl, inr, List, [], ◌∷◌, nat_abs, arith, ℤ, pos, negsuc, neg_ℤ, ◌+ℤ◌, ◌*ℤ◌, ◌<ℤ◌, refl, ap, sym, subst, ◌∙◌}
+use Rattle.std.proofs.Common.{◌≡◌, ℕ, zero, suc, ◌+◌, ◌-◌, ◌*◌, ◌≤◌, inl, inr, List, [], ◌∷◌, nat_abs, arith, ℤ, pos, negsuc, neg_ℤ, ◌*ℤ◌, ◌<ℤ◌, refl, ap, sym, subst}
 use Rattle.std.proofs.lemmas.Int.{ints}
 use Rattle.std.proofs.lemmas.Bool.{cases_lt}
 use native.Mathlib.Nat.{mul-le-mul_left, le_of_mul-le-mul_left}
-use Rattle.arithmetic.proofs.Integers.{*ℤ_mono, neg_ℤ-*ℤ}
-use Rattle.arithmetic.proofs.Products.{products}
 use Rattle.form.specs.Vector.{dot, strike_entry}
 use Rattle.clearing_model.specs.Line.{weight_entry}
-use Rattle.market_laws.proofs.Line.{Agree, Each, at}
+use Rattle.market_laws.proofs.Line.{Agree, Each, agree_left, agree_right, at, at_combined, each_then, middle_is, on_break, opposite}
 use Rattle.limits.specs.declared.TheConstants.{MAX_SETTLEMENT_PRICE}
-
-at_combined : (a b : ℤ) (i j t s t' s' : ℕ) → at a b (i * t + j * t') (i * s + j * s') ≡ (at a b t s *ℤ pos i) +ℤ (at a b t' s' *ℤ pos j)
-at_combined a b i j t s t' s' = omega (arith, ints, products)
 
 pub dot-pair : (v : List ℤ) (t s : ℕ) → dot v (t ∷ s ∷ []) ≡ at (strike_entry v) (weight_entry v) t s
 dot-pair [] t s = omega (arith, ints)
@@ -25,43 +20,8 @@ agree_swap : {x y : ℤ} → Agree x y → Agree y x
 agree_swap (inl h) = inl (h.1, h.0)
 agree_swap (inr h) = inr (h.1, h.0)
 
-agree_left : (x y : ℤ) (i j : ℕ) → Agree x y → Agree x ((y *ℤ pos i) +ℤ (x *ℤ pos j))
-agree_left x y i j (inl h) = inl (h.0, omega (arith, ints, *ℤ_mono i (pos 0) y h.1, *ℤ_mono j (pos 0) x h.0))
-agree_left x y i j (inr h) = inr (h.0, omega (arith, ints, *ℤ_mono i y (pos 0) h.1, *ℤ_mono j x (pos 0) h.0))
-
-agree_right : (x y : ℤ) (i j : ℕ) → Agree x y → Agree ((y *ℤ pos i) +ℤ (x *ℤ pos j)) y
-agree_right x y i j (inl h) = inl (omega (arith, ints, *ℤ_mono i (pos 0) y h.1, *ℤ_mono j (pos 0) x h.0), h.1)
-agree_right x y i j (inr h) = inr (omega (arith, ints, *ℤ_mono i y (pos 0) h.1, *ℤ_mono j x (pos 0) h.0), h.1)
-
--- an option with a value above 0 and one below has entries of opposite signs
-opposite : (a b : ℤ) (t s t' s' : ℕ) → pos 0 <ℤ at a b t s → at a b t' s' <ℤ pos 0 → (a *ℤ b) <ℤ pos 0
-opposite (pos a) (pos b) t s t' s' h k = absurd (omega (arith, ints))
-opposite (negsuc a) (negsuc b) t s t' s' h k = absurd (omega (arith, ints))
-opposite (pos zero) (negsuc b) t s t' s' h k = absurd (omega (arith, ints))
-opposite (pos (suc a)) (negsuc b) t s t' s' h k = omega (arith, ints)
-opposite (negsuc a) (pos zero) t s t' s' h k = absurd (omega (arith, ints))
-opposite (negsuc a) (pos (suc b)) t s t' s' h k = omega (arith, ints)
-
--- where it is 0, the state is on the ray of the bend
-on_bend : (a b : ℤ) (t s : ℕ) → (a *ℤ b) <ℤ pos 0 → at a b t s ≡ pos 0 → (1 ≤ nat_abs b) × (nat_abs b * s ≡ t * nat_abs a)
-on_bend (pos a) (pos b) t s h e = absurd (omega (arith, ints))
-on_bend (negsuc a) (negsuc b) t s h e = absurd (omega (arith, ints))
-on_bend (pos a) (negsuc b) t s h e = omega (arith, ints)
-on_bend (negsuc a) (pos zero) t s h e = absurd (omega (arith, ints))
-on_bend (negsuc a) (pos (suc b)) t s h e = omega (arith, ints)
-
--- the state x * (p', q') + y * (p, q), at which the option's value is 0, parts two others
-middle_is : (a b : ℤ) (p q p' q' x y : ℕ) → at a b p q ≡ pos x → at a b p' q' ≡ neg_ℤ (pos y) → at a b (x * p' + y * p) (x * q' + y * q) ≡ pos 0
-middle_is a b p q p' q' x y e e' =
-    at_combined a b x y p' q' p q ∙ subst (λ (w : ℤ). (at a b p' q' *ℤ pos x) +ℤ (w *ℤ pos y) ≡ pos 0) (sym e)
-    (subst (λ (w : ℤ). (w *ℤ pos x) +ℤ (pos x *ℤ pos y) ≡ pos 0) (sym e') (omega (arith, ints, neg_ℤ-*ℤ (pos y) (pos x))))
-
 abbrev pub AgreesAt : ℕ → ℕ → ℕ → ℕ → List ℤ → Type 0
 AgreesAt t s t' s' v = Agree (at (strike_entry v) (weight_entry v) t s) (at (strike_entry v) (weight_entry v) t' s')
-
-pub each_then : {A : Type 0} (P Q : A → Type 0) (xs : List A) → ((x : A) → P x → Q x) → Each P xs → Each Q xs
-each_then P Q [] f h = tt
-each_then P Q (x ∷ xs) f h = (f x h.0, each_then P Q xs f h.1)
 
 -- ---- a fact about states that goes by their directions
 pub record IsOfDirections (P : ℕ → ℕ → Type 0) : Type 0 where
@@ -120,7 +80,7 @@ module _ (P : ℕ → ℕ → Type 0) (of_directions : IsOfDirections P) (t s : 
   holds_on_bend v m n bends signs e some low =
       let a = nat_abs (strike_entry v) in
       let b = nat_abs (weight_entry v) in
-      let on = on_bend (strike_entry v) (weight_entry v) m n signs e in
+      let on = on_break (strike_entry v) (weight_entry v) m n signs e in
       let times = mul-le-mul_left b low in
       let inside : m * a ≤ m * (MAX_SETTLEMENT_PRICE * b) = omega (arith, times, on.1) in
       let there = of_directions.up m b a some (bends signs (le_of_mul-le-mul_left inside some)) in

@@ -18,12 +18,8 @@ use Rattle.account_need.specs.Prices.{bound_at, is_due, turning_in, turning_live
 use Rattle.account_need.specs.Several.{is_by_itself}
 use Rattle.account_need.proofs.Convex.{Holds, bends_parts, bends_scale, bends_so, bounds, each_turning}
 use Rattle.account_need.proofs.LineBounds.{line_bound_is}
-use Rattle.account_need.proofs.Narrow.{HoldsAtBend, each_then}
-use Rattle.market_laws.proofs.Line.{Each}
-
-each_of : {A : Type 0} (P : A → Type 0) → ((x : A) → P x) → (xs : List A) → Each P xs
-each_of P all [] = tt
-each_of P all (x ∷ xs) = (all x, each_of P all xs)
+use Rattle.account_need.proofs.Narrow.{HoldsAtBend}
+use Rattle.market_laws.proofs.Line.{Each, each_of_all, each_then}
 
 -- ---- bounds rounded up
 module _ (p : Summed) where
@@ -103,7 +99,7 @@ module _ (p : Summed) where
   line_bound_turns =
       let all = above ends (options_in p) in
       let W = with_bends p ends (options_in p) in
-      let up = least turned ends (options_in p) (above ends (turning_in p)).0 (each_of (Below turned) all_below (options_in p)) in
+      let up = least turned ends (options_in p) (above ends (turning_in p)).0 (each_of_all (Below turned) all_below (options_in p)) in
       let down = least W ends (turning_in p) all.0 (each_turning (Below W) p all.1) in
       line_bound_is p ∙ both_ways W turned up down
 

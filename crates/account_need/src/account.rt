@@ -1,5 +1,5 @@
 //! What an account needs, and what it may do.
-ghost use Rattle.std.specs.Prelude.{ℕ, ℤ, List, ◌≡◌, ◌≢◌, ◌≤◌, ◌+◌, ◌∷◌, IfOk, OnOk, length, map, pos, unsigned_abs, ◌-ℤ◌};
+ghost use Rattle.std.specs.Prelude.{ℕ, ◌≡◌, ◌≢◌, ◌≤◌, ◌+◌, IfOk, length, map, pos, unsigned_abs, ◌-ℤ◌};
 ghost use Rattle.std.specs.List.{All, list_any};
 ghost use Rattle.form.specs.declared.limits.TheConstants.{MAX_ORDERS, MAX_UNDERLYINGS};
 ghost use Rattle.frac.specs.Range.{limit as largest};

@@ -1,7 +1,6 @@
 //! The need of a market on one underlying.
-ghost use Rattle.std.specs.Prelude.{◌≡◌, ◌≤◌, ◌+◌, ◌^◌, ℕ, length, map, unsigned_abs, ◌*◌, pos, ◌+ℤ◌};
+ghost use Rattle.std.specs.Prelude.{◌≡◌, ◌≤◌, ◌+◌, ◌^◌, ℕ, map, unsigned_abs, ◌*◌, pos, ◌+ℤ◌};
 ghost use Rattle.arithmetic.specs.Sums.{positive_part};
-ghost use Rattle.std.specs.List.{All};
 ghost use Rattle.frac.specs.Range.{limit as largest};
 ghost use Rattle.form.specs.Limits.{IsListed};
 ghost use Rattle.form.specs.Payoff.{bundle_legs, option_of};

@@ -1,5 +1,5 @@
 //! The bound of a market on several underlyings.
-ghost use Rattle.std.specs.Prelude.{ℕ, ℤ, ◌≡◌, ◌≤◌, ◌+◌, ◌*◌, IfOk, OnOk, Some, None, filter, length, nat_le, pos, unsigned_abs, ◌+ℤ◌, if◌then◌else◌};
+ghost use Rattle.std.specs.Prelude.{ℤ, ◌≡◌, ◌≤◌, ◌+◌, ◌*◌, IfOk, Some, None, filter, length, nat_le, pos, unsigned_abs, ◌+ℤ◌, if◌then◌else◌};
 ghost use Rattle.std.specs.List.{All};
 ghost use Rattle.arithmetic.specs.Sums.{positive_part};
 ghost use Rattle.form.specs.Payoff.{IsOnCount};
@@ -13,7 +13,7 @@ ghost use Rattle.settlement.specs.Positions.{IsHeldPosition};
 ghost use Rattle.simplex_run.specs.Ending.{Ending};
 ghost use Rattle.account_need.specs.Given.{IsFound};
 ghost use Rattle.account_need.specs.Prices.{IsOrderOn};
-ghost use Rattle.account_need.specs.Several.{and_then, bounded_by, is_by_itself, less_price, run_over, with_one, with_own, within};
+ghost use Rattle.account_need.specs.Several.{bounded_by, is_by_itself, less_price, run_over, with_one, with_own, within};
 
 use crate::entries::owing_one;
 use crate::kinds::is_by_itself;

@@ -82,6 +82,10 @@ pub total-map : {A B : Type 0} (v : B → ℤ) (f : A → B) (xs : List A) → t
 total-map v f [] = refl
 total-map v f (x ∷ xs) = ap (λ s. v (f x) +ℤ s) (total-map v f xs)
 
+pub total-append : {A : Type 0} (v : A → ℤ) (xs ys : List A) → total v (xs ++ ys) ≡ total v xs +ℤ total v ys
+total-append v [] ys = omega (arith, ints)
+total-append v (x ∷ xs) ys = omega (arith, ints, total-append v xs ys)
+
 pub total_same : {A : Type 0} (v w : A → ℤ) → ((x : A) → v x ≡ w x) → (xs : List A) → total v xs ≡ total w xs
 total_same v w h [] = refl
 total_same v w h (x ∷ xs) = rw (h x) (ap (λ s. w x +ℤ s) (total_same v w h xs))

@@ -1,5 +1,5 @@
 -- The lines that ask nothing, as an input of their own, and what is promised of the answers to them.
-use Rattle.std.specs.Prelude.{ℕ, ◌≡◌, Bool, false, List, [], ◌∷◌, ◌++◌, drop, if◌then◌else◌}
+use Rattle.std.specs.Prelude.{ℕ, ◌≡◌, Bool, false, List, ◌∷◌, drop, if◌then◌else◌}
 use Rattle.command_text.specs.Lines.{mark_size}
 use Rattle.live_lines.specs.Output.{lines_output, output_of}
 use Rattle.asked_lines.specs.Asked.{AskedState, asked_step, asking_first}

@@ -4,13 +4,14 @@ use Rattle.std.proofs.lemmas.List.{length-map}
 use Rattle.std.proofs.lemmas.List.Elements.{All-nil, All-cons, All-append}
 use Rattle.arithmetic.proofs.Sums.{All-head, All-tail, All-of_map, All-to_map}
 use Rattle.exact_num.specs.declared.misfit.Wide.{Wide as Misfit}
-use Rattle.exact_num.specs.Fraction.{Fraction, IsDefined, IsLowest, IsNotBelowZero}
+use Rattle.exact_num.specs.Fraction.{Fraction, IsDefined, IsNotBelowZero}
 use Rattle.form.specs.declared.orders.Order.{Order}
 use Rattle.form.specs.Payoff.{BundleLeg, IsOnCount, bundle_of, leg_of, legs_in}
 use Rattle.form.proofs.Vectors.{length-option_of}
 use Rattle.frac.specs.Range.{limit}
 use Rattle.frac.specs.Value.{fraction_of}
 use Rattle.frac.specs.declared.frac128.Frac128.{Frac128}
+use Rattle.frac.proofs.Lowest.{lowest_of}
 use Rattle.sign_tree.specs.Legs.{FractionLeg, fraction_legs}
 use Rattle.cell_cover.specs.declared.cover.CellVerdict.{CellVerdict}
 use Rattle.cell_cover.specs.declared.cover.CellVerdict.TheVariants.{Closed, Open}
@@ -50,10 +51,6 @@ legs_have_entries count orders fills len on =
     All-of_map (HasEntries count) option_at (fraction_legs orders fills) (subst (All (HasEntries count)) (sym (legs_have_options orders fills len)) (options_have count orders on))
 
 -- ---- numbers in lowest terms
-fractions_lowest : (xs : List Frac128) → All IsLowest (map fraction_of xs)
-fractions_lowest [] = All-nil IsLowest
-fractions_lowest (x ∷ xs) = All-cons IsLowest (fraction_of x) (map fraction_of xs) x.lowest (fractions_lowest xs)
-
 multipliers_lowest : (ms : List Multiplier) → All IsLowestBy (map multiplier_of ms)
 multipliers_lowest [] = All-nil IsLowestBy
 multipliers_lowest (m ∷ ms) = All-cons IsLowestBy (multiplier_of m) (map multiplier_of ms) m.by.lowest (multipliers_lowest ms)
@@ -116,7 +113,7 @@ tree_decides n orders fills L nodes b (Some tree) len on written formed h = reco
   written = written;
   formed = formed;
   closes_so =
-      walks_decide limit n orders (map fraction_of fills) (fraction_of L) tree b (length-map fills fraction_of ∙ len) (options_have (n + 1) orders on) (fractions_lowest fills) L.lowest
+      walks_decide limit n orders (map fraction_of fills) (fraction_of L) tree b (length-map fills fraction_of ∙ len) (options_have (n + 1) orders on) (lowest_of fills) L.lowest
       (tree_lowest tree (subst (All IsLowestNode) (writes_back tree (map node_of nodes) written) (nodes_lowest nodes))) formed h;
 }
 

@@ -13,8 +13,8 @@ ghost use Rattle.sign_tree.specs.Left.{batch_legs, exposure_as, leg_as};
 ghost use Rattle.cell_cover.specs.Classes.{option_in, options_in};
 ghost use Rattle.cell_cover.specs.Kinked.{all_as};
 ghost use Rattle.cell_cover.specs.Rows.{row_of};
-ghost use Rattle.cell_cover.specs.Rowed.{class_row, is_same_row, kinked_so_far, kinks_in, row_index, row_step, rows_in, with_fresh, with_one};
-ghost use Rattle.cell_cover.specs.Walk.{KinksAndSlope, signed_amount, slope_step};
+ghost use Rattle.cell_cover.specs.Rowed.{is_same_row, kinked_so_far, kinks_in, row_index, row_step, rows_in, with_fresh, with_one};
+ghost use Rattle.cell_cover.specs.Walk.{signed_amount, slope_step};
 
 use crate::factors::class_of;
 use crate::rows::{add_each, zero_row};

@@ -1,6 +1,6 @@
 //! Vectors of exact numbers: an entry for the strike, and one for each underlying.
 
-ghost use Rattle.std.specs.Prelude.{ℕ, ◌≡◌, ◌≤◌, length, pos, replicate};
+ghost use Rattle.std.specs.Prelude.{ℕ, ◌≡◌, ◌≤◌, pos, replicate};
 ghost use Rattle.exact_num.specs.Fraction.{whole};
 ghost use Rattle.exact_num.specs.Fits.{meaning};
 ghost use Rattle.frac.specs.Range.{limit};

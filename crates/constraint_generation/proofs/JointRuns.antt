@@ -6,7 +6,6 @@ use Rattle.exact_num.specs.declared.misfit.Wide.{Wide as Misfit}
 use Rattle.simplex_run.specs.Ending.{Ending, done, unbounded, wide_at, no_unit_left, on_answer, on_steps, where_fits}
 use Rattle.simplex_run.proofs.Endings.{on_answer-done}
 use Rattle.form.specs.declared.orders.Order.{Order}
-use Rattle.form.specs.declared.orders.Batch.{Batch}
 use Rattle.clearing_model.specs.Clearing.{AreOn}
 use Rattle.cert_check.specs.declared.outcome.Cover.{Cover}
 use Rattle.cert_check.specs.declared.outcome.Cover.TheVariants.{Line, Tree}

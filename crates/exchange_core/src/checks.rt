@@ -1,5 +1,5 @@
 // What is looked at before a command has an effect. It takes no memory.
-ghost use Rattle.std.specs.Prelude.{◌≡◌, ◌≢◌, Err};
+ghost use Rattle.std.specs.Prelude.{◌≢◌, Err};
 ghost use Rattle.cash_ledger.specs.Refusals.{funds_refusals};
 ghost use Rattle.order_book.specs.Refusals.{batch_refusals, close_refusals};
 ghost use Rattle.order_book.specs.Within.{IsNewOrderWithin};

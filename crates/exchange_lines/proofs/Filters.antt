@@ -1,13 +1,7 @@
 -- Filtered lists, and sums over them.
-use Rattle.std.proofs.Common.{◌≡◌, Bool, true, false, cond, List, [], ◌∷◌, ◌++◌, filter, ℤ, ◌+ℤ◌, refl, ap, sym, ◌∙◌, arith}
+use Rattle.std.proofs.Common.{◌≡◌, Bool, true, false, cond, List, [], ◌∷◌, filter, refl, ap, sym, ◌∙◌}
 use Rattle.std.specs.List.{All}
-use Rattle.std.proofs.lemmas.Int.{ints}
 use Rattle.std.proofs.lemmas.List.Elements.{All-head, All-tail}
-use Rattle.arithmetic.specs.Sums.{total}
-
-pub total-append : {A : Type 0} (v : A → ℤ) (xs ys : List A) → total v (xs ++ ys) ≡ total v xs +ℤ total v ys
-total-append v [] ys = omega (arith, ints)
-total-append v (x ∷ xs) ys = omega (arith, ints, total-append v xs ys)
 
 module _ {X : Type 0} (p : X → Bool) where
   -- all stay, or none

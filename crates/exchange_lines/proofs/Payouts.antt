@@ -5,6 +5,7 @@ use Rattle.std.proofs.Math.Nat.{zero-div}
 use Rattle.std.proofs.lemmas.Int.{ints}
 use Rattle.std.proofs.lemmas.List.Elements.{All-nil, All-cons, All-head, All-tail, All-append}
 use Rattle.arithmetic.specs.Sums.{total}
+use Rattle.arithmetic.proofs.Sums.{total-append}
 use Rattle.arithmetic.proofs.Tests.{int_lt-no}
 use Rattle.clearing_model.specs.Certificate.{IsFill}
 use Rattle.form.specs.declared.orders.Order.{Order}
@@ -19,7 +20,7 @@ use Rattle.settlement.specs.Positions.{gain_at, held_in, is_of, paid_out, paid_s
 use Rattle.exchange_core.specs.Positions.{position_of, positions_of, positions_in}
 use Rattle.exchange_lines.specs.Gain.{is_payout_of, paid_to_trader, paid_to_traders}
 use Rattle.exchange_lines.proofs.FillGains.{gain_on}
-use Rattle.exchange_lines.proofs.Filters.{filter_commute, total-append}
+use Rattle.exchange_lines.proofs.Filters.{filter_commute}
 
 -- the positions of a batch
 abbrev pub is_held_for : ℕ → Position → Bool

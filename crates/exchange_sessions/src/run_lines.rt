@@ -1,6 +1,5 @@
 // The lines of a run, between two reads.
-ghost use Rattle.std.specs.Prelude.{◌≡◌, ◌<◌, ◌==◌, ◌≤◌, false, length, IfOk};
-ghost use Rattle.std.specs.List.{list_any};
+ghost use Rattle.std.specs.Prelude.{◌≡◌, ◌<◌};
 ghost use Rattle.exchange_core.specs.ExchangeState.{empty_exchange};
 ghost use Rattle.exchange_lines.specs.Output.{line_output};
 ghost use Rattle.live_lines.specs.Answering.{by_step};

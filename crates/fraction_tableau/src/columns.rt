@@ -1,5 +1,5 @@
 //! The columns: which one enters, and the step of a row that is told.
-ghost use Rattle.std.specs.Prelude.{◌≡◌, ◌+◌, ◌<◌, ◌≤◌, IfSome, length, map};
+ghost use Rattle.std.specs.Prelude.{◌≡◌, ◌<◌, ◌≤◌, IfSome, length, map};
 ghost use Rattle.std.specs.Option.{option_map};
 ghost use Rattle.simplex_run.specs.Choice.{least_below, smaller as smaller_of};
 ghost use Rattle.simplex_run.specs.Table.{label_at, with_right};

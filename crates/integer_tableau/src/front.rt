@@ -1,7 +1,7 @@
 //! The row at the front of a row: the denominator, and then so many numbers, the right side last.
-ghost use Rattle.std.specs.Prelude.{◌≡◌, ◌+◌, ◌-◌, ◌*◌, ◌^◌, ◌<◌, ◌≤◌, length, map, pos, true, unsigned_abs, slice_set, take};
+ghost use Rattle.std.specs.Prelude.{◌≡◌, ◌+◌, ◌-◌, ◌^◌, ◌<◌, ◌≤◌, length, map, pos, true, unsigned_abs, slice_set, take};
 ghost use Rattle.std.specs.Int.{int_signum};
-ghost use Rattle.run_equivalence.specs.IntegerRows.{IsIntegerRow, integer_row, row_size, number_at, numbers_fit, widest};
+ghost use Rattle.run_equivalence.specs.IntegerRows.{IsIntegerRow, integer_row, row_size, number_at, widest};
 ghost use Rattle.run_equivalence.specs.WholePivoting.{cut};
 ghost use Rattle.integer_tableau.specs.Eliminating.{IsEliminatedBy, IsFrontLeft, IsKept, IsPivotRow, IsShortPivot};
 ghost use Rattle.integer_tableau.specs.Rows.{row_in, nonzero_in};

@@ -1,5 +1,5 @@
 //! The objective row, of 128 bits, and room for a pivot.
-ghost use Rattle.std.specs.Prelude.{◌≡◌, ◌-◌, ◌^◌, ◌<◌, ◌≤◌, length, map, true, unsigned_abs};
+ghost use Rattle.std.specs.Prelude.{◌≡◌, ◌-◌, ◌<◌, ◌≤◌, length, map, true};
 ghost use Rattle.run_equivalence.specs.IntegerRows.{row_size};
 ghost use Rattle.integer_tableau.specs.Eliminating.{IsEliminatedBy, IsKept, IsPivotRow};
 ghost use Rattle.integer_tableau.specs.Rows.{row_in};

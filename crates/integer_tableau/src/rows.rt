@@ -1,5 +1,5 @@
 //! The rows of a table, each in 64 bits where these hold it and else in 128.
-ghost use Rattle.std.specs.Prelude.{◌≡◌, ◌≢◌, ◌+◌, ◌-◌, ◌^◌, ◌<◌, ◌≤◌, ℕ, IfOk, [], ◌∷◌, ◌++◌, false, length, pos, take, true, unsigned_abs, slice_set, vec_len};
+ghost use Rattle.std.specs.Prelude.{◌≡◌, ◌≢◌, ◌+◌, ◌-◌, ◌^◌, ◌<◌, ◌≤◌, ℕ, IfOk, [], ◌∷◌, ◌++◌, false, length, take, true, unsigned_abs, vec_len};
 ghost use Rattle.fraction_tableau.specs.Candidates.{best_with};
 ghost use Rattle.run_equivalence.specs.IntegerRows.{IsIntegerRow, integer_row, row_size, number_at, widest};
 ghost use Rattle.run_equivalence.specs.WholePivoting.{cut, whole_ratios};

@@ -2,7 +2,7 @@
 ghost use Rattle.std.specs.Prelude.{◌≡◌, IfSome, ◌≤◌, ◌≤ℤ◌, ◌<◌, ◌+◌, ◌-◌, ◌*◌, ◌/◌, ◌^◌, pos, unsigned_abs, length, int_div, take};
 ghost use Rattle.arithmetic.specs.Gcd.{gcd as gcd_of};
 ghost use Rattle.run_equivalence.specs.WholePivoting.{cut_where_wide, cross_difference};
-ghost use Rattle.run_equivalence.specs.IntegerRows.{AreSizes, integer_row, row_size, number_at, widest};
+ghost use Rattle.run_equivalence.specs.IntegerRows.{AreSizes, integer_row, row_size, widest};
 ghost use Rattle.integer_tableau.specs.Eliminating.{IsKept, IsLeft, IsMade, IsPivotRow, IsShortPivot};
 ghost use Rattle.integer_tableau.specs.Rows.{nonzero_in, with_place};
 ghost use Rattle.integer_tableau.specs.Within.{HasRoom};

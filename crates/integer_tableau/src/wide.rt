@@ -4,7 +4,7 @@ ghost use Rattle.std.specs.Prelude.{◌≡◌, true, IfSome, ◌<◌, ◌≤◌,
 ghost use Rattle.std.specs.Int.{int_signum};
 ghost use Rattle.arithmetic.specs.Gcd.{gcd as gcd_of};
 ghost use Rattle.run_equivalence.specs.WholePivoting.{cut, cut_where_wide};
-ghost use Rattle.run_equivalence.specs.IntegerRows.{AreSizes, IsIntegerRow, row_fits, integer_row, row_size, number_at, numbers_fit, widest};
+ghost use Rattle.run_equivalence.specs.IntegerRows.{AreSizes, row_fits, integer_row, row_size, numbers_fit, widest};
 ghost use Rattle.integer_tableau.specs.Eliminating.{IsEliminatedBy, IsKept, IsPivotRow};
 
 use crate::divisor::{common, common_of_wide, divisor_of, whole_quotient, wide_quotient};

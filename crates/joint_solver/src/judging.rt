@@ -1,5 +1,5 @@
 // The sums of the verdict, which come last in a run.
-ghost use Rattle.std.specs.Prelude.{◌≡◌, ◌≤◌, length, map, vec_capacity};
+ghost use Rattle.std.specs.Prelude.{◌≤◌, length, vec_capacity};
 ghost use Rattle.form.specs.Limits.{IsWithinLimits};
 ghost use Rattle.cert_check.specs.Tests.{AreSigns};
 ghost use Rattle.constraint_generation.specs.Answers.{IsJointOf, IsJudgedAnswer, as_stopped};

@@ -26,7 +26,7 @@ use Rattle.market_laws.proofs.Legs.{longs, shorts, long_amount, short_amount, ne
 abbrev pub at : ℤ → ℤ → ℕ → ℕ → ℤ
 at a b t s = (a *ℤ pos t) +ℤ (b *ℤ pos s)
 
-at_combined : (a b : ℤ) (i j t s t' s' : ℕ) → at a b (i * t + j * t') (i * s + j * s') ≡ (at a b t s *ℤ pos i) +ℤ (at a b t' s' *ℤ pos j)
+pub at_combined : (a b : ℤ) (i j t s t' s' : ℕ) → at a b (i * t + j * t') (i * s + j * s') ≡ (at a b t s *ℤ pos i) +ℤ (at a b t' s' *ℤ pos j)
 at_combined a b i j t s t' s' =
     omega (arith, ints, products)
 
@@ -77,7 +77,7 @@ each_from_all : {A : Type 0} (P : A → Type 0) (xs : List A) → All P xs → E
 each_from_all P [] h = tt
 each_from_all P (x ∷ xs) h = (All-head P x xs h, each_from_all P xs (All-tail P x xs h))
 
-each_then : {A : Type 0} (P Q : A → Type 0) (xs : List A) → ((x : A) → P x → Q x) → Each P xs → Each Q xs
+pub each_then : {A : Type 0} (P Q : A → Type 0) (xs : List A) → ((x : A) → P x → Q x) → Each P xs → Each Q xs
 each_then P Q [] f h = tt
 each_then P Q (x ∷ xs) f h = (f x h.0, each_then P Q xs f h.1)
 
@@ -130,7 +130,7 @@ pay_scaled k t s leg =
     itself (negsuc n) = inr (omega (arith, ints), omega (arith, ints))
 
 -- a form with a value above 0 and one below has entries of opposite signs
-opposite : (a b : ℤ) (t s t' s' : ℕ) → pos 0 <ℤ at a b t s → at a b t' s' <ℤ pos 0 → (a *ℤ b) <ℤ pos 0
+pub opposite : (a b : ℤ) (t s t' s' : ℕ) → pos 0 <ℤ at a b t s → at a b t' s' <ℤ pos 0 → (a *ℤ b) <ℤ pos 0
 opposite (pos a) (pos b) t s t' s' h k = absurd (omega (arith, ints))
 opposite (negsuc a) (negsuc b) t s t' s' h k = absurd (omega (arith, ints))
 opposite (pos zero) (negsuc b) t s t' s' h k = absurd (omega (arith, ints))
@@ -139,7 +139,7 @@ opposite (negsuc a) (pos zero) t s t' s' h k = absurd (omega (arith, ints))
 opposite (negsuc a) (pos (suc b)) t s t' s' h k = omega (arith, ints)
 
 -- where it is 0, the state is on the ray of the break
-on_break : (a b : ℤ) (t s : ℕ) → (a *ℤ b) <ℤ pos 0 → at a b t s ≡ pos 0 → (1 ≤ nat_abs b) × (nat_abs b * s ≡ t * nat_abs a)
+pub on_break : (a b : ℤ) (t s : ℕ) → (a *ℤ b) <ℤ pos 0 → at a b t s ≡ pos 0 → (1 ≤ nat_abs b) × (nat_abs b * s ≡ t * nat_abs a)
 on_break (pos a) (pos b) t s h e = absurd (omega (arith, ints))
 on_break (negsuc a) (negsuc b) t s h e = absurd (omega (arith, ints))
 on_break (pos a) (negsuc b) t s h e = omega (arith, ints)
@@ -149,7 +149,7 @@ on_break (negsuc a) (pos (suc b)) t s h e = omega (arith, ints)
 Breaks : List FilledLeg → ℤ → FilledLeg → Type 0
 Breaks legs L leg = (strike_entry leg.option *ℤ weight_entry leg.option) <ℤ pos 0 → Holds legs L (nat_abs (weight_entry leg.option)) (nat_abs (strike_entry leg.option))
 
-each_of_all : {A : Type 0} (P : A → Type 0) → ((x : A) → P x) → (xs : List A) → Each P xs
+pub each_of_all : {A : Type 0} (P : A → Type 0) → ((x : A) → P x) → (xs : List A) → Each P xs
 each_of_all P f [] = tt
 each_of_all P f (x ∷ xs) = (f x, each_of_all P f xs)
 
@@ -188,16 +188,16 @@ record Narrower (legs : List FilledLeg) (L : ℤ) (t s : ℕ) (old : Cone legs L
   here : AgreesAt cone.p cone.q cone.p' cone.q' leg
   kept : (o : FilledLeg) → AgreesAt old.p old.q old.p' old.q' o → AgreesAt cone.p cone.q cone.p' cone.q' o
 
-agree_left : (x y : ℤ) (i j : ℕ) → Agree x y → Agree x ((y *ℤ pos i) +ℤ (x *ℤ pos j))
+pub agree_left : (x y : ℤ) (i j : ℕ) → Agree x y → Agree x ((y *ℤ pos i) +ℤ (x *ℤ pos j))
 agree_left x y i j (inl h) = inl (h.0, omega (arith, ints, *ℤ_mono i (pos 0) y h.1, *ℤ_mono j (pos 0) x h.0))
 agree_left x y i j (inr h) = inr (h.0, omega (arith, ints, *ℤ_mono i y (pos 0) h.1, *ℤ_mono j x (pos 0) h.0))
 
-agree_right : (x y : ℤ) (i j : ℕ) → Agree x y → Agree ((y *ℤ pos i) +ℤ (x *ℤ pos j)) y
+pub agree_right : (x y : ℤ) (i j : ℕ) → Agree x y → Agree ((y *ℤ pos i) +ℤ (x *ℤ pos j)) y
 agree_right x y i j (inl h) = inl (omega (arith, ints, *ℤ_mono i (pos 0) y h.1, *ℤ_mono j (pos 0) x h.0), h.1)
 agree_right x y i j (inr h) = inr (omega (arith, ints, *ℤ_mono i y (pos 0) h.1, *ℤ_mono j x (pos 0) h.0), h.1)
 
 -- the state x * (p', q') + y * (p, q), at which the order's value is 0, parts the cone in two
-middle_is : (a b : ℤ) (p q p' q' x y : ℕ) → at a b p q ≡ pos x → at a b p' q' ≡ neg_ℤ (pos y) → at a b (x * p' + y * p) (x * q' + y * q) ≡ pos 0
+pub middle_is : (a b : ℤ) (p q p' q' x y : ℕ) → at a b p q ≡ pos x → at a b p' q' ≡ neg_ℤ (pos y) → at a b (x * p' + y * p) (x * q' + y * q) ≡ pos 0
 middle_is a b p q p' q' x y e e' =
     at_combined a b x y p' q' p q ∙ subst (λ (w : ℤ). (at a b p' q' *ℤ pos x) +ℤ (w *ℤ pos y) ≡ pos 0) (sym e)
     (subst (λ (w : ℤ). (w *ℤ pos x) +ℤ (pos x *ℤ pos y) ≡ pos 0) (sym e') (omega (arith, ints, neg_ℤ-*ℤ (pos y) (pos x))))

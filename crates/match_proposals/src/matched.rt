@@ -1,6 +1,6 @@
 //! The match of each bundle by itself, as a proposal.
 
-ghost use Rattle.std.specs.Prelude.{◌≡◌, ◌≤◌, IfOk};
+ghost use Rattle.std.specs.Prelude.{◌≡◌, IfOk};
 ghost use Rattle.exact_num.specs.Tests.{is_at_most};
 ghost use Rattle.frac.specs.Value.{fraction_of};
 ghost use Rattle.form.specs.Limits.{IsWithinLimits};

@@ -1,5 +1,5 @@
 // Lines that sessions say.
-ghost use Rattle.std.specs.Prelude.{◌≡◌, ◌≤◌, IfOk, OnOk};
+ghost use Rattle.std.specs.Prelude.{◌≡◌, IfOk, OnOk};
 ghost use Rattle.command_text.specs.Within.{IsInside, RequestIsWithin};
 ghost use Rattle.limits.specs.declared.TheConstants.{MAX_LINES};
 ghost use Rattle.members.specs.Members.{AreFew};

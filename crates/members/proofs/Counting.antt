@@ -31,7 +31,7 @@ counted_after session new q counts =
     by false = refl
 
 -- ---- within the quota
-below : (limit used : ℕ) → nat_le limit used ≡ false → used + 1 ≤ limit
+pub below : (limit used : ℕ) → nat_le limit used ≡ false → used + 1 ≤ limit
 below limit used is = grind (arith, nat_tests)
 
 front_false : (a b : Bool) → (a || b) ≡ false → a ≡ false

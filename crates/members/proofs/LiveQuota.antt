@@ -1,7 +1,6 @@
 -- The accounts of a session that is not the operator's have few live orders, whatever is said.
 use Rattle.std.proofs.Common.{◌≡◌, ◌≤◌, ℕ, ◌+◌, Bool, true, false, not, ◌&&◌, ◌||◌, List, [], ◌∷◌, ◌++◌, nat_le, Option, Some, None, if◌then◌else◌, refl, sym, ap, ◌∙◌, subst, arith}
 use Rattle.std.specs.Option.{option_map, option_map_or}
-use Rattle.std.proofs.lemmas.Bool.Decides.{nat_tests}
 use Rattle.std.proofs.lemmas.List.Elements.{All-push}
 use Rattle.cash_ledger.specs.Ledger.{is_open}
 use Rattle.cash_ledger.specs.Refusals.{open_refusals}
@@ -31,7 +30,7 @@ use Rattle.members.specs.Rule.{is_operator}
 use Rattle.members.specs.declared.quota.TheConstants.{MAX_OWN_LIVE, MAX_PLACED}
 use Rattle.members.specs.declared.refusal.MemberRefusal.{MemberRefusal}
 use Rattle.members.proofs.ByRule.{allowed_if, moved, of_side}
-use Rattle.members.proofs.Counting.{not_over, not_used}
+use Rattle.members.proofs.Counting.{below, not_over, not_used}
 use Rattle.members.proofs.FewLive.{InEach, in_changed, in_each_of, in_left, in_live, own_left, own_more, own_opened}
 use Rattle.members.proofs.OwnerLists.{owner_is}
 
@@ -43,9 +42,6 @@ both_false false b h = h
 test_false : (a b : Bool) → a ≡ true → (a && b) ≡ false → b ≡ false
 test_false true b is h = h
 test_false false b is h = cc
-
-fewer : (limit count : ℕ) → nat_le limit count ≡ false → count + 1 ≤ limit
-fewer limit count is = grind (arith, nat_tests)
 
 one_owner : (a b : ℕ) → Some a ≡ Some b → a ≡ b
 one_owner a b is = cc
@@ -103,7 +99,7 @@ module _ (members : MembersState) (state : ExchangeState) (kept : IsKept state) 
         room is =
             let none_over = both_false (nat_le MAX_PLACED (counted_of members.counts speaker).placed) (has_own_live members.owners state.book speaker order.market) (within is) in
             let few_there = test_false (is_trading state.book order.market) (nat_le MAX_OWN_LIVE (own_live members.owners speaker before)) (trading_at state order none) none_over in
-            subst (λ n. own_live members.owners n before + 1 ≤ MAX_OWN_LIVE) (sym is) (fewer MAX_OWN_LIVE (own_live members.owners speaker before) few_there)
+            subst (λ n. own_live members.owners n before + 1 ≤ MAX_OWN_LIVE) (sym is) (below MAX_OWN_LIVE (own_live members.owners speaker before) few_there)
 
         by : (b : Bool) → owns members.owners q order.account ≡ b → Few (before ++ new ∷ [])
         by true is =

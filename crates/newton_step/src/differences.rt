@@ -1,5 +1,5 @@
 //! Differences of numbers that are not below 0, each a whole number and a fraction below 1.
-ghost use Rattle.std.specs.Prelude.{◌≡◌, ◌<◌, ◌≤◌, ◌+◌, ◌*◌, ◌/◌, ◌%◌, ◌^◌, pos};
+ghost use Rattle.std.specs.Prelude.{◌≡◌, ◌<◌, ◌≤◌, ◌+◌, ◌*◌, ◌/◌, ◌^◌};
 ghost use Rattle.arithmetic.specs.Sums.{positive_part};
 ghost use Rattle.exact_num.specs.Fraction.{IsNotBelowZero};
 ghost use Rattle.frac.specs.Value.{fraction_of};

@@ -1,5 +1,5 @@
 -- At which prices a further order raises the surplus.
-use Rattle.std.proofs.Common.{◌≡◌, ℕ, ◌+◌, ◌<◌, ◌≤◌, true, false, List, [], ◌∷◌, ◌++◌, length, length-append, map, arith, All, sum, pos, unsigned_abs, ◌*◌, ◌*ℤ◌, ◌<ℤ◌, ◌≤ℤ◌, ℤ, Some, None, refl, ap, sym, subst, inl, inr}
+use Rattle.std.proofs.Common.{◌≡◌, ℕ, ◌+◌, ◌<◌, ◌≤◌, true, false, List, [], ◌∷◌, ◌++◌, length-append, map, arith, All, sum, pos, unsigned_abs, ◌*◌, ◌*ℤ◌, ◌<ℤ◌, ◌≤ℤ◌, ℤ, Some, None, refl, ap, sym, subst, inl, inr}
 use Rattle.std.specs.List.Sorted.{IsStrictlyIncreasing}
 use Rattle.std.specs.Ordering.{int_cmp, is_lt}
 use Rattle.std.proofs.lemmas.Int.{ints, by_lt_z}

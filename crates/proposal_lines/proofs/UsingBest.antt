@@ -365,7 +365,7 @@ serves_used market offer bound state next line sound serves answer is =
 
 -- ---- all lines
 -- what follows a line follows by what it clears
-follows : (surplus bound : Fraction) (told : Option ToldClear) (First Then : Type 0) → (First → Then) → clears_or surplus bound told First → clears_or surplus bound told Then
+pub follows : (surplus bound : Fraction) (told : Option ToldClear) (First Then : Type 0) → (First → Then) → clears_or surplus bound told First → clears_or surplus bound told Then
 follows surplus bound None First Then later used = later used
 follows surplus bound (Some told) First Then later used = used
 

@@ -1,5 +1,5 @@
 -- The texts in the pieces of the certificates of proposals are plain.
-use Rattle.std.proofs.Common.{◌≡◌, ℕ, List, [], ◌∷◌, refl}
+use Rattle.std.proofs.Common.{ℕ, List, [], ◌∷◌, refl}
 use Rattle.cert_check.specs.declared.measures.Measure.{Measure}
 use Rattle.cert_check.specs.declared.outcome.Cover.TheVariants.{Line}
 use Rattle.cell_cover.specs.declared.cover.Multiplier.{Multiplier}

@@ -1,5 +1,5 @@
 -- The certificate of a proposal within its ranges is written as one, and taken out again.
-use Rattle.std.proofs.Common.{◌≡◌, ◌≤◌, List, length, true, Some, option_map, refl, ap, ◌∙◌}
+use Rattle.std.proofs.Common.{◌≡◌, ◌≤◌, List, length, true, Some, option_map, refl, ap}
 use Rattle.std.proofs.lemmas.Bool.{and_from, le-leb, or_left, or_right}
 use Rattle.frac.specs.declared.frac128.Frac128.{Frac128}
 use Rattle.cert_check.specs.declared.measures.Measure.{Measure}

@@ -1,5 +1,5 @@
 -- Cells within their ranges are written as such, and taken out again.
-use Rattle.std.proofs.Common.{◌≡◌, ℕ, ◌<◌, ◌^◌, List, [], ◌∷◌, true, ◌&&◌, nat_lt, nat_le, length, Some, option_map, refl, ap, ◌∙◌, arith}
+use Rattle.std.proofs.Common.{◌≡◌, ℕ, ◌<◌, ◌^◌, List, [], ◌∷◌, true, ◌&&◌, nat_lt, nat_le, length, Some, option_map, refl, ap, arith}
 use Rattle.std.proofs.lemmas.Bool.{and_from, and_parts, le-leb, leb-true, lt-ltb, or_left}
 use Rattle.form.specs.Between.{Between}
 use Rattle.cell_cover.specs.Cells.{classes_rise}

@@ -1,6 +1,6 @@
 //! What is handed out for what a solver found.
 
-ghost use Rattle.std.specs.Prelude.{◌≡◌, ◌↔◌, IfOk, IsTrue};
+ghost use Rattle.std.specs.Prelude.{◌↔◌, IfOk, IsTrue};
 ghost use Rattle.form.specs.Limits.{IsWithinLimits};
 ghost use Rattle.proposals.specs.Judged.{IsHandedOut, IsJudgedBound};
 

@@ -1,5 +1,5 @@
 -- What quoted and priced lines tell of the greatest surplus, and what a trial tells.
-use Rattle.std.proofs.Common.{◌≡◌, ℕ, List, Option, Some, refl, ap, sym, subst, inl, inr}
+use Rattle.std.proofs.Common.{ℕ, List, Option, Some, refl, ap, sym, subst, inl, inr}
 use Rattle.std.specs.Option.{option_map_or}
 use Rattle.form.specs.declared.orders.Batch.{Batch}
 use Rattle.form.specs.declared.orders.Order.{Order}

@@ -1,6 +1,5 @@
 //! Orders, payouts and positions that are added to a line.
 ghost use Rattle.std.specs.Prelude.{true, ◌≡◌, ◌++◌, OnOk};
-ghost use Rattle.form.specs.Bundles.{legs_in};
 ghost use Rattle.reply_print.specs.BatchPieces.{bundle_field, each, form_piece, leg_piece, order_piece};
 ghost use Rattle.reply_print.specs.Piece.{Fields, fields_text, piece_text};
 ghost use Rattle.reply_print.specs.ReplyPieces.{paid_piece, position_piece, signed_amount};

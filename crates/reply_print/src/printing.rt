@@ -1,9 +1,9 @@
 //! Pieces that are added to a line, one behind another. The only error of each call is want of
 //! memory. Keys are known where a piece is added, and with them how much each call copies, so these
 //! calls go in line.
-ghost use Rattle.std.specs.Prelude.{true, ◌≡◌, ◌++◌, ◌∷◌, [], ℤ, OnOk};
+ghost use Rattle.std.specs.Prelude.{true, ◌≡◌, ◌++◌, ◌∷◌, [], OnOk};
 ghost use Rattle.exact_num.specs.Fraction.{over};
-ghost use Rattle.reply_print.specs.BatchPieces.{each, fraction, natural, pieces_of, whole_words};
+ghost use Rattle.reply_print.specs.BatchPieces.{each, fraction, natural, whole_words};
 ghost use Rattle.reply_print.specs.Numbers.{fraction_text};
 ghost use Rattle.reply_print.specs.Piece.{Fields, Piece, Pieces, comma_after, field, fields_text, piece, piece_text, pieces_text, truth, truth_word, whole, words};
 

@@ -1,5 +1,5 @@
 -- The numbers of a run of the simplex method, and the step at which it stops.
-use Rattle.std.proofs.Common.{◌≡◌, ◌≢◌, ℕ, zero, suc, ◌+◌, ◌*◌, ◌<ℤ◌, List, [], ◌∷◌, ◌++◌, length, map, drop, set, ℤ, pos, Bool, true, false, nat_eq, refl, subst, arith}
+use Rattle.std.proofs.Common.{◌≡◌, ◌≢◌, ℕ, zero, suc, ◌+◌, ◌*◌, ◌<ℤ◌, List, [], ◌∷◌, length, map, drop, set, ℤ, pos, Bool, true, false, nat_eq, refl, subst, arith}
 use Rattle.std.specs.Prelude.{Option, Some, None, Result, Ok, Err, if◌then◌else◌, nat_lt}
 use Rattle.std.specs.List.{All}
 use Rattle.std.proofs.lemmas.Int.{ints}

@@ -7,6 +7,7 @@ use Rattle.std.proofs.lemmas.Int.{ints}
 use Rattle.std.proofs.lemmas.List.Elements.{All-nil, All-cons, All-head, All-tail, All-append, All-filter, All-map, All-weaker}
 use Rattle.std.proofs.lemmas.Map.Keys.{IsDistinct-head, IsDistinct-push, IsDistinct-tail}
 use Rattle.arithmetic.specs.Sums.{total}
+use Rattle.arithmetic.proofs.Sums.{total-append}
 use Rattle.cash_ledger.specs.declared.entry.Entry.{Entry}
 use Rattle.cash_ledger.specs.declared.entry.Cause.{Cause}
 use Rattle.cash_ledger.specs.declared.entry.Cause.TheVariants.{Payoff, Premium}
@@ -54,10 +55,6 @@ amount_of entry = entry.amount
 abbrev outside_of : Entry → ℤ
 outside_of entry = if_from_outside entry.cause entry.amount
 
-total_joined : {A : Type 0} (v : A → ℤ) (xs ys : List A) → total v (xs ++ ys) ≡ total v xs +ℤ total v ys
-total_joined v [] ys = omega (arith, ints)
-total_joined v (x ∷ xs) ys = omega (arith, ints, total_joined v xs ys)
-
 -- ---- entries that come
 module _ (opened : List ℕ) where
   abbrev IsOpen : ℕ → Type 0
@@ -72,7 +69,7 @@ module _ (opened : List ℕ) where
   both_entered : (xs ys : List Entry) → AreAccountedFor opened xs → AreAccountedFor opened ys → AreAccountedFor opened (xs ++ ys)
   both_entered xs ys first second = record {
     accounts = All-append IsEntered xs ys first.accounts second.accounts;
-    sum = total_joined amount_of xs ys ∙ (λ i. first.sum i +ℤ second.sum i) ∙ sym (total_joined outside_of xs ys);
+    sum = total-append amount_of xs ys ∙ (λ i. first.sum i +ℤ second.sum i) ∙ sym (total-append outside_of xs ys);
   }
 
   one_entered : (entry : Entry) → IsOpen entry.account → amount_of entry ≡ outside_of entry → AreAccountedFor opened (entry ∷ [])

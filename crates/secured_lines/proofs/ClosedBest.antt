@@ -26,8 +26,8 @@ use Rattle.proposal_lines.specs.Answers.{AreToldFor, IsToldFor, ProposalAnswer, 
 use Rattle.proposal_text.specs.declared.replies.ServedReply.{ServedReply}
 use Rattle.proposal_lines.specs.Laws.{IsSound}
 use Rattle.proposal_lines.specs.ProposingState.{ProposingState}
-use Rattle.proposal_lines.specs.UsesBest.{IfTaken, IsUsedBy, ToldClear, UsesBest, clear_in, clears_or}
-use Rattle.proposal_lines.proofs.UsingBest.{uses_the_best}
+use Rattle.proposal_lines.specs.UsesBest.{IfTaken, IsUsedBy, UsesBest, clear_in}
+use Rattle.proposal_lines.proofs.UsingBest.{follows, uses_the_best}
 use Rattle.serve_lines.specs.Output.{serving_reply}
 use Rattle.serve_lines.specs.Phased.{exchange_of}
 use Rattle.serve_lines.specs.ServingState.{ServingState}
@@ -105,10 +105,6 @@ closed_batches_stay market state (line ∷ lines) sound shut there meanwhile =
     ∙ line_same market state line sound shut there meanwhile.0
 
 -- ---- what is used
-clears_so : (surplus bound : Fraction) (told : Option ToldClear) (Then Later : Type 0) → (Then → Later) → clears_or surplus bound told Then → clears_or surplus bound told Later
-clears_so surplus bound None Then Later so used = so used
-clears_so surplus bound (Some told) Then Later so used = used
-
 -- the market of a proposal that is taken is there
 not_refused : (b : Bool) (others : Option Refusal) → (if not b then Some NoMarket else others) ≡ None → b ≡ true
 not_refused true others none = refl
@@ -144,7 +140,7 @@ module _ {S : Type 0} (serving : S → ServingState) (step : ℕ → S → List 
     used_next market surplus bound (line ∷ lines) [] state sound shut there used = tt
     used_next market surplus bound (line ∷ lines) (answer ∷ answers) state sound shut there used =
         let after = (step line.number state line.bytes).1 in
-        clears_so surplus bound (clear_in market answer)
+        follows surplus bound (clear_in market answer)
         (batch_in (proposing after).exchange market ≡ batch_in (proposing state).exchange market → IsUsedBy proposing step market surplus bound after lines answers)
         (IsElsewhere market (serving state) line → IsUsedNext serving step market surplus bound after lines answers)
         (λ later elsewhere.

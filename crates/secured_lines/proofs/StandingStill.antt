@@ -1,5 +1,5 @@
 -- A closed market stands still, whatever lines come.
-use Rattle.std.proofs.Common.{◌≡◌, ℕ, true, List, [], ◌∷◌, Option, Some, None, Result, Ok, refl, sym, ◌∙◌, subst}
+use Rattle.std.proofs.Common.{◌≡◌, ℕ, true, [], ◌∷◌, Option, Some, None, Result, Ok, refl, sym, ◌∙◌, subst}
 use Rattle.std.specs.Option.{option_map_or}
 use Rattle.auction_phases.specs.Laws.{StandsStill}
 use Rattle.auction_phases.specs.Phases.{is_closed}

@@ -1,13 +1,12 @@
 // The messages of sessions, each answered as a line.
-ghost use Rattle.std.specs.Prelude.{◌≡◌, ◌<◌, ◌+◌, ◌==◌, false, length, IfOk, IsTrue, OnOk, Some};
-ghost use Rattle.std.specs.List.{list_any};
+ghost use Rattle.std.specs.Prelude.{◌≡◌, ◌<◌, ◌+◌, IfOk, IsTrue, OnOk, Some};
 ghost use Rattle.live_lines.specs.Answering.{by_step};
 ghost use Rattle.session_gate.specs.Bodies.{is_body};
 ghost use Rattle.session_gate.specs.Gate.{IsNumber, message_of};
 ghost use Rattle.limits.specs.declared.TheConstants.{MAX_LINES};
 ghost use Rattle.session_lines.specs.Answers.{kept_reply};
 ghost use Rattle.session_lines.specs.Served.{without_feed};
-ghost use Rattle.session_lines.specs.Sessions.{after_answered, after_message, new_sessions, said_step, session_step};
+ghost use Rattle.session_lines.specs.Sessions.{after_answered, new_sessions, said_step, session_step};
 ghost use Rattle.session_lines.specs.Standing.{StandsBefore, stands_behind};
 
 use crate::bodies::AnswersMessages;

@@ -1,6 +1,6 @@
 //! The check of one leaf: its multipliers stand where they may, and no entry of its sum is above 0.
 
-ghost use Rattle.std.specs.Prelude.{◌≡◌, ◌≤◌, ◌<◌, ◌-◌, ◌&&◌, length, map, pos, true, Ok};
+ghost use Rattle.std.specs.Prelude.{◌≡◌, ◌<◌, ◌-◌, ◌&&◌, length, map, pos, true, Ok};
 ghost use Rattle.std.specs.List.{list_all};
 ghost use Rattle.exact_num.specs.Fits.{meaning, mul_of};
 ghost use Rattle.exact_num.specs.Fraction.{whole};

@@ -1,5 +1,5 @@
 -- A program that is given to a space, and what its run tells.
-use Rattle.std.proofs.Common.{◌≡◌, ℕ, zero, suc, ◌+◌, ◌*◌, ◌<◌, ◌≤◌, List, [], ◌∷◌, ◌++◌, length, map, take, pos, refl, sym, ◌∙◌, ap, subst, arith}
+use Rattle.std.proofs.Common.{◌≡◌, ℕ, ◌+◌, ◌*◌, ◌<◌, ◌≤◌, List, [], ◌∷◌, length, map, take, pos, refl, sym, ◌∙◌, ap, subst, arith}
 use Rattle.std.specs.Prelude.{Result, Err, slice_index_or}
 use Rattle.std.proofs.lemmas.Int.{ints}
 use Rattle.std.proofs.lemmas.List.{length-map, length-append, take-map, take_more}
@@ -13,6 +13,7 @@ use Rattle.simplex_run.specs.Ending.{Ending, done, unbounded, wide_at, no_unit_l
 use Rattle.simplex_run.specs.Optimum.{IsProgram}
 use Rattle.simplex_run.specs.Choose.{bases_of}
 use Rattle.simplex_run.specs.Units.{units_of}
+use Rattle.simplex_run.proofs.FirstTable.{append_has, one_has}
 use Rattle.simplex_run.proofs.Suffice.{units_suffice}
 use Rattle.simplex_run.specs.Table.{Table as TableOf, first_table}
 use Rattle.simplex_run.specs.Run.{Optimum, read_off, run, run_from}
@@ -38,15 +39,6 @@ use Rattle.integer_tableau.specs.Tables.{as_whole}
 use Rattle.simplex.specs.Spaces.{Contents, found, stopped, answer_of, contents_after, optimum_in, whole_optimum_in, contents_of, program_given, IsProgramGiven, IsFound, IsAt, direction_of}
 
 -- ---- numbers of the code
-both_at : (P : Fraction → Type 0) (xs ys : List Fraction) → ((j : ℕ) → P (at xs j)) → ((j : ℕ) → P (at ys j)) → (j : ℕ) → P (at (xs ++ ys) j)
-both_at P [] ys h k j = k j
-both_at P (x ∷ xs) ys h k zero = h 0
-both_at P (x ∷ xs) ys h k (suc j) = both_at P xs ys (λ i. h (suc i)) k j
-
-one_at : (P : Fraction → Type 0) (x : Fraction) → P x → P fraction_zero → (j : ℕ) → P (at (x ∷ []) j)
-one_at P x h z zero = h
-one_at P x h z (suc j) = z
-
 none_at : (P : Fraction → Type 0) → P fraction_zero → (j : ℕ) → P (at [] j)
 none_at P z j = z
 
@@ -67,12 +59,12 @@ row_is_program value p a b low g width sign =
     record {
       coefficients = record {
         count = omega (arith, length-append p.coefficients (map value a), length-map a value, g.coefficients.count, width);
-        lowest = both_at IsLowest p.coefficients (map value a) g.coefficients.lowest (lowest_all value low a);
+        lowest = append_has IsLowest p.coefficients (map value a) g.coefficients.lowest (lowest_all value low a);
       };
       right_sides = record {
         count = omega (arith, length-append p.right_sides (value b ∷ []), g.right_sides.count);
-        lowest = both_at IsLowest p.right_sides (value b ∷ []) g.right_sides.lowest (one_at IsLowest (value b) (low b) (whole_is_lowest (pos 0)));
-        sign = both_at IsNotBelowZero p.right_sides (value b ∷ []) g.right_sides.sign (one_at IsNotBelowZero (value b) sign zero_not_below);
+        lowest = append_has IsLowest p.right_sides (value b ∷ []) g.right_sides.lowest (one_has IsLowest (value b) (whole_is_lowest (pos 0)) (low b));
+        sign = append_has IsNotBelowZero p.right_sides (value b ∷ []) g.right_sides.sign (one_has IsNotBelowZero (value b) zero_not_below sign);
       };
       costs = g.costs;
     }
