@@ -1,0 +1,209 @@
+"""What the program writes and how it ends: the files of cases/, pieces, words and faults.
+
+In a file of cases `== `, the words of the program and a name stand before each; its input follows,
+and behind `= ` the lines that are written: all of them, or, in clears and endings, the last. Behind
+`> ` stands a line without its line feed. A line `* 9 LINES` stands for its lines, apart by
+semicolons, 9 times, with the number of the time for each `#`.
+"""
+
+from __future__ import annotations
+
+import json
+import pathlib
+import subprocess
+import time
+import unittest
+from collections.abc import Iterator
+from typing import NamedTuple
+
+from ragvismo_tools.piping import ends_of, piped
+from ragvismo_tools.places import PROGRAM, TOP
+from ragvismo_tools.tests.common import Ran, built, run
+
+# Lines that are no messages, apart by bars.
+MALFORMED = (
+    "7|7,1|7,1,|,1,a|7,,a|0,1,a|1000000000,1,a|7,0,a|7,1000001,a|07,1,a|-7,1,a|+7,1,a| 7,1,a|"
+    '"7",1,a|7,1,\ufeffa|7,1,\ufeff|7,1,a\rb|7,1,a\r\r|\ufeff7,1,a|\ufeff'
+)
+# Lines of every shape, the last without a line feed.
+LINES = b"\xef\xbb\xbfopen,1\r\n\nopen,2\n\r\n\xef\xbb\xbfopen,3\nopen,4"
+CASES = pathlib.Path(__file__).parent / "cases"
+MOST = 16_777_216
+SHORT = (TOP / "examples/butterfly.commands").read_bytes()
+PLACED = SHORT.partition(b"clear")[0]
+# Words that ask for nothing, apart by bars.
+OTHERS = (
+    "demo 4294967296 1|demo 1 10001|demo 1 0|demo 01 1|demo +1 1|demo 1 -1|demo 1|demo 1 1 1|run run|"
+    "run quotes|quotes 1|quote|audit 1|Audit|guarded guarded|Guarded|Run|check 1|serve serve|serve 1|"
+    "propose 1|propose sessions|Propose|sessions serve|serve sessions 1|members|serve members 1|"
+    "serve Members|help|--help|-h|--|"
+)
+
+
+class Case(NamedTuple):
+    words: list[str]
+    name: str
+    given: bytes
+    wanted: bytes
+
+
+def repeated(text: str) -> str:
+    times, _, lines = text.partition(" ")
+    return "".join(lines.replace(";", "\n").replace("#", str(k + 1)) for k in range(int(times)))
+
+
+def cases(file: str) -> Iterator[Case]:
+    for text in (CASES / f"{file}.txt").read_bytes().decode().split("== ")[1:]:
+        head, _, rest = text.partition("\n")
+        words, _, name = head.partition(": ")
+        given = wanted = ""
+        for line in rest.split("\n")[:-1]:
+            mark, behind = line[:2], line[2:]
+            if mark == "= ":
+                wanted += f"{behind}\n"
+            elif mark == "* ":
+                given += repeated(f"{behind}\n")
+            else:
+                given += behind if mark == "> " else f"{line}\n"
+        yield Case(words.split(), name, given.encode(), wanted.encode())
+
+
+def ended(words: list[str], given: bytes) -> Ran:
+    return subprocess.run([PROGRAM, *words], input=given, capture_output=True)
+
+
+def status_with(wanted: bytes) -> int:
+    """How a call ends that writes this: a report that says no has a status of its own."""
+    return 6 if wanted.endswith(b'"verdict":"no"}\n') else 0
+
+
+@built
+class Cases(unittest.TestCase):
+    def test_inputs_give_their_replies(self) -> None:
+        for file in ("sessions", "journals", "served"):
+            for case in cases(file):
+                with self.subTest(file=file, name=case.name):
+                    ran = ended(case.words, case.given)
+                    self.assertEqual(ran.stdout, case.wanted)
+                    self.assertEqual(ran.returncode, status_with(case.wanted))
+
+    def test_inputs_end_with_their_replies(self) -> None:
+        for file in ("clears", "endings"):
+            for case in cases(file):
+                with self.subTest(file=file, name=case.name):
+                    ran = ended(case.words, case.given)
+                    front = len(ran.stdout) - len(case.wanted)
+                    self.assertEqual((ran.returncode, ran.stdout[front:]), (0, case.wanted))
+
+    def test_demos_end_as_they_must(self) -> None:
+        for seed, count, lines, end in (
+            (1, 1, 84, "sell,15,1,call,1200,215,1,1,0\nclear,1,2000\nsettle,1,961,1087\n"),
+            (0, 20, 103, "sell,26,1,call,1600,90,3,1,1\nclear,1,2000\nsettle,1,1037,1199\n"),
+            (
+                2**32 - 1,
+                41,
+                126,
+                "sell,24,1,call,1000,121,9,0,1\nclear,1,2000\nsettle,1,998,950\n",
+            ),
+        ):
+            text = run("demo-commands", seed, count).stdout.decode()
+            self.assertEqual(text.count("\n"), lines)
+            self.assertTrue(text.endswith(end), text)
+            told = ended(["demo", str(seed), str(count)], b"").stdout
+            self.assertEqual(json.loads(told)["lines"], lines)
+
+    def test_a_proposal_for_a_book_is_judged_a_bound(self) -> None:
+        book = ended(["serve"], PLACED + b"book,1\n").stdout.splitlines(True)
+        proposed = ended(["propose"], b"".join(book[-2:-1] + [b"book,1\n"] + book[-1:])).stdout
+        served = ended(["serve"], PLACED + proposed).stdout
+        self.assertIn(b'"reply":"proposed"', served)
+        self.assertEqual(ended(["propose"], PLACED).stdout, b"")
+
+    def test_other_lines_are_malformed(self) -> None:
+        wanted = b'{"line":1,"number":15,"reason":"Malformed","reply":"gate"}\n'
+        for line in MALFORMED.split("|"):
+            with self.subTest(line=line):
+                self.assertEqual(ended(["sessions"], line.encode()).stdout, wanted)
+
+    def test_a_message_may_be_repeated_often(self) -> None:
+        again, other = "999999999,1,,\n", '{},1,"a",b\n{}'
+        given = again + "".join(other.format(k, again) for k in range(1, 1_001))
+        answers = ended(["sessions"], given.encode()).stdout.splitlines()
+        self.assertEqual((len(answers), len(set(answers[::2]))), (2_001, 1))
+
+    def test_long_proposals_are_judged(self) -> None:
+        point = '{"state":["1","0"],"weight":"%d/1152921504606846976"}'
+        part = 2**60 // 1_024 - 1
+        for before, number in ((1_023, None), (1_024, 1)):
+            measure = [point % part] * before + [point % (part + 1_024)]
+            line = (
+                'propose,1,{"certificate":{"cover":"line","measure":[%s]},"fills":["1/2","1/7",'
+                '"5/14"],"liability":"0","orders":[1,2,3],"surplus":"3/7"}\n' % ",".join(measure)
+            ).encode()
+            self.assertGreater(len(line), 65_536)
+            told = json.loads(ended(["serve"], PLACED + line).stdout.splitlines()[-1])
+            self.assertEqual(told.get("number"), number, told)
+
+
+@built
+class Pieces(unittest.TestCase):
+    def test_pieces_make_no_difference(self) -> None:
+        for words, given in (("serve", LINES), ("serve sessions", b"7,1,open,1\n\n8,1,open,2")):
+            whole = ended(words.split(), given).stdout
+            for size in (1, 2, 3, 7, 10):
+                with self.subTest(words=words, size=size):
+                    with piped([PROGRAM, *words.split()], bufsize=0) as child:
+                        to, told = ends_of(child)
+                        for at in range(0, len(given), size):
+                            to.write(given[at : at + size])
+                            time.sleep(0.001)
+                        to.close()
+                        self.assertEqual((told.read(), child.wait()), (whole, 0))
+
+    def test_lines_are_answered_wherever_they_are_cut(self) -> None:
+        whole = ended(["serve"], LINES).stdout.splitlines(True)
+        for place in range(1, len(LINES)):
+            ends = [k for k, line in enumerate(LINES[:place].split(b"\n")[:-1]) if line.strip()]
+            with piped([PROGRAM, "serve"], bufsize=0) as child:
+                given, told = ends_of(child)
+                given.write(LINES[:place])
+                early = [told.readline() for _ in ends]
+                given.write(LINES[place:])
+                given.close()
+                self.assertEqual([*early, *told], whole, place)
+
+
+@built
+class Endings(unittest.TestCase):
+    def told(self, status: int, said: bytes, ran: Ran) -> None:
+        self.assertEqual((ran.returncode, ran.stdout, ran.stderr), (status, b"", said))
+
+    def test_other_words_are_usage(self) -> None:
+        for words in OTHERS.split("|"):
+            with self.subTest(words=words):
+                ran = ended(words.split(), SHORT)
+                self.assertEqual((ran.returncode, ran.stdout), (2, b""))
+                self.assertTrue(ran.stderr.startswith(b"usage: "), ran.stderr)
+
+    def test_a_read_or_write_that_fails_has_its_status(self) -> None:
+        for words in ("run", "check", "sessions", "serve", "serve sessions", "propose"):
+            with self.subTest(words=words), open("/dev/full", "wb") as full:
+                with open("/proc/self/mem", "rb") as unread:
+                    failed = subprocess.run(
+                        [PROGRAM, *words.split()], stdin=unread, capture_output=True
+                    )
+                self.told(3, b"read fault\n", failed)
+                if words != "propose":
+                    ran = subprocess.run(
+                        [PROGRAM, *words.split()],
+                        input=b"7,1,open,1\n",
+                        stdout=full,
+                        stderr=subprocess.PIPE,
+                    )
+                    self.assertEqual((ran.returncode, ran.stderr), (4, b"write fault\n"))
+
+    def test_inputs_are_read_to_the_limit(self) -> None:
+        self.assertEqual(ended(["run"], b"x" * MOST).returncode, 0)
+        self.told(5, b"input too long\n", ended(["run"], b"x" * (MOST + 1)))
+        ran = ended(["serve"], b"open,1\n" + b"x" * (MOST + 3))
+        self.assertEqual((ran.returncode, ran.stdout.count(b"\n")), (5, 1))
