@@ -113,7 +113,7 @@ def house(top: pathlib.Path, most: int) -> Iterator[str]:
                 row[kind] += lines
                 files.append((lines, name))
                 found += functions(path, name) if folder == "src" else ()
-        row["wrong bodies"] = len(list((crate / "must-fail").glob("*.edit")))
+        row["wrong bodies"] = len(list(crate.glob("*must-fail/*.edit")))
     sums = {kind: sum(row[kind] for row in rows.values()) for kind in (*KINDS, "wrong bodies")}
     yield "| Crate | " + " | ".join(it.capitalize() for it in sums) + " |\n|---|" + "---|" * len(
         sums

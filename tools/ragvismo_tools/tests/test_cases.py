@@ -33,10 +33,10 @@ SHORT = (TOP / "examples/butterfly.commands").read_bytes()
 PLACED = SHORT.partition(b"clear")[0]
 # Words that ask for nothing, apart by bars.
 OTHERS = (
-    "demo 4294967296 1|demo 1 10001|demo 1 0|demo 01 1|demo +1 1|demo 1 -1|demo 1|demo 1 1 1|run run|"
-    "run quotes|quotes 1|quote|audit 1|Audit|guarded guarded|Guarded|Run|check 1|serve serve|serve 1|"
-    "propose 1|propose sessions|Propose|sessions serve|serve sessions 1|members|serve members 1|"
-    "serve Members|help|--help|-h|--|"
+    "demo 4294967296 1|demo 1 10001|demo 1 0|demo 01 1|demo +1 1|demo 1 -1|demo 1|demo 1 1 1|"
+    "run run|run quotes|quotes 1|quote|audit 1|Audit|guarded guarded|Guarded|Run|check 1|serve 1|"
+    "serve serve|propose 1|propose sessions|Propose|sessions serve|serve sessions 1|members|"
+    "serve members 1|serve Members|help|--help|-h|--|"
 )
 
 

@@ -12,8 +12,10 @@ import subprocess
 import time
 
 import ragvismo
+from ragvismo_tools import wrong_bodies
 from ragvismo_tools.places import PROGRAM, TOP
 from ragvismo_tools.tests.common import Folder, run
+from ragvismo_tools.wrong_bodies import BY_GATE, BY_HAND
 
 
 # It tries a program that repeats its input, of which no more is read than comes within half a
@@ -26,10 +28,19 @@ class Gate(Folder):
         ran = run("house", "--top", 1)
         last = ran.stdout.decode().splitlines()[-1]
         sums = dict(re.findall(r"([a-z ]+) (\d+)(?:, |$)", last.removeprefix("sum: ")))
-        edits = len(list((TOP / "crates").glob("*/must-fail/*.edit")))
+        edits = len(wrong_bodies.bodies(BY_GATE) + wrong_bodies.bodies(BY_HAND))
         self.assertEqual((ran.returncode, int(sums["wrong bodies"])), (0, edits), last)
         self.assertGreater(int(sums["proofs"]), int(sums["code"]))
         self.refused(run("house", self.folder))
+
+    def test_wrong_bodies_fit_their_crates(self) -> None:
+        both = wrong_bodies.bodies(BY_GATE) + wrong_bodies.bodies(BY_HAND)
+        for edit in both:
+            self.assertEqual(list(wrong_bodies.misfits(edit)), [], edit)
+        names = [f"{edit.parents[1].name}/{edit.stem}" for edit in both]
+        listed = run("wrong-bodies", "--list").stdout.decode().replace(" (gate)", "").split()
+        self.assertEqual((len(set(names)), sorted(listed)), (len(names), sorted(names)))
+        self.refused(run("wrong-bodies", "nothing"))
 
     def test_a_record_of_the_gate_is_told(self) -> None:
         kept = self.folder / "kept"
