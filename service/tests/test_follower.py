@@ -72,7 +72,7 @@ class Processes(unittest.TestCase):
 
     def test_giving_way(self) -> None:
         """Of a group of others just the process itself does."""
-        nice = os.nice(0) + 10
+        nice = min(os.nice(0) + 10, 19)
         self.assertRegex(self.told(True), f"^{nice} False (False|.* nice 10)$")
         self.assertRegex(self.told(True, "idle"), f"^{nice} True (False|.* nice 19)$")
         own = OF_GROUP.read_text().strip() if OF_GROUP.exists() else "False"
@@ -152,7 +152,7 @@ class Following(Service):
     def test_it_gives_way(self) -> None:
         """A follower and its program do, and no sequencer."""
         nice = os.nice(0)
-        for process, given in ((self.start_follower(), nice + 10), (self.sequencers[0], nice)):
+        for process, given in ((self.start_follower(), min(nice + 10, 19)), (self.sequencers[0], nice)):
             for each in (process.pid, self.program_of(process)):
                 self.assertEqual(os.getpriority(os.PRIO_PROCESS, each), given)
         idle = subprocess.Popen([*self.call(), "--idle"], stderr=subprocess.DEVNULL)
