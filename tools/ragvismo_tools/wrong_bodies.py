@@ -1,4 +1,4 @@
-"""Tries the wrong bodies that the gate leaves out, since a check of their crates is dear.
+"""Tries the wrong bodies that the gate leaves out, since each costs a check of its crate.
 
     tools/wrong-bodies [--list] [CRATE..]
 
