@@ -152,7 +152,8 @@ class Following(Service):
     def test_it_gives_way(self) -> None:
         """A follower and its program do, and no sequencer."""
         nice = os.nice(0)
-        for process, given in ((self.start_follower(), min(nice + 10, 19)), (self.sequencers[0], nice)):
+        lower = min(nice + 10, 19)
+        for process, given in ((self.start_follower(), lower), (self.sequencers[0], nice)):
             for each in (process.pid, self.program_of(process)):
                 self.assertEqual(os.getpriority(os.PRIO_PROCESS, each), given)
         idle = subprocess.Popen([*self.call(), "--idle"], stderr=subprocess.DEVNULL)
