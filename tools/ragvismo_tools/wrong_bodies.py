@@ -3,9 +3,10 @@
     tools/wrong-bodies [--list] [CRATE..]
 
 The gate tries those in a crate's must-fail/, and this those in also-must-fail/, of all crates that
-have some where none is named: in a copy of the checkout they take the place of the others, and
-`rt ci CRATE..` tries them. Its lines come through, and its status is the status here: 0 where the
-prover refuses each. With --list it prints the names of all wrong bodies, and which the gate tries.
+have some where none is named: in a copy of the checkout they take the place of the others, and `rt
+ci CRATE..` tries them. Its lines come through, and its status is the status here: 0 where the
+prover refuses each. It is 1 where one is a bad edit, which `rt ci` lets pass. With --list it prints
+the names of all wrong bodies, and which the gate tries.
 """
 
 from __future__ import annotations
@@ -61,6 +62,20 @@ def copy(to: pathlib.Path, crates: Sequence[str]) -> None:
         (to / "crates" / name / BY_HAND).rename(to / "crates" / name / BY_GATE)
 
 
+def tried(folder: str, crates: Sequence[str]) -> int:
+    """The status of `rt ci`, whose lines come through, or 1 where it tells of a bad edit."""
+    words = ["rt", "ci", *crates]
+    with subprocess.Popen(
+        words, cwd=folder, stdout=subprocess.PIPE, stderr=subprocess.STDOUT, text=True
+    ) as child:
+        assert child.stdout
+        is_bad = False
+        for line in child.stdout:
+            print(line, end="", flush=True)
+            is_bad = is_bad or "BAD EDIT" in line
+    return child.returncode or int(is_bad)
+
+
 def main() -> int:
     words = words_of(__doc__)
     words.add_argument("--list", action="store_true")
@@ -75,7 +90,7 @@ def main() -> int:
     with tempfile.TemporaryDirectory() as folder:
         copy(pathlib.Path(folder), crates)
         try:
-            return subprocess.run(["rt", "ci", *crates], cwd=folder).returncode
+            return tried(folder, crates)
         except FileNotFoundError:
             raise BadUse("this needs the Rattle kit, with rt on the path") from None
 

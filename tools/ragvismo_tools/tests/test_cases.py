@@ -36,7 +36,7 @@ OTHERS = (
     "demo 4294967296 1|demo 1 10001|demo 1 0|demo 01 1|demo +1 1|demo 1 -1|demo 1|demo 1 1 1|"
     "run run|run quotes|quotes 1|quote|audit 1|Audit|guarded guarded|Guarded|Run|check 1|serve 1|"
     "serve serve|propose 1|propose sessions|Propose|sessions serve|serve sessions 1|members|"
-    "serve members 1|serve Members|help|--help|-h|--|"
+    "serve members 1|serve Members|help|--help|-h|--|run now|guarded run|demo  1|"
 )
 
 
@@ -129,26 +129,41 @@ class Cases(unittest.TestCase):
         again, other = "999999999,1,,\n", '{},1,"a",b\n{}'
         given = again + "".join(other.format(k, again) for k in range(1, 1_001))
         answers = ended(["sessions"], given.encode()).stdout.splitlines()
-        self.assertEqual((len(answers), len(set(answers[::2]))), (2_001, 1))
+        of = '{"line":1,"number":1,"reason":"Syntax","reply":"refused"}'
+        answer = f'{{"number":1,"of":{of},"session":999999999}}'.encode()
+        self.assertEqual((len(answers), set(answers[::2])), (2_001, {answer}))
 
     def test_long_proposals_are_judged(self) -> None:
         point = '{"state":["1","0"],"weight":"%d/1152921504606846976"}'
         part = 2**60 // 1_024 - 1
-        for before, number in ((1_023, None), (1_024, 1)):
+        judged = (
+            b'{"best_surplus":"3/7","bound":"6","least_bound":"6","line":8,"market":1,'
+            b'"reply":"proposed","surplus":"3/7"}'
+        )
+        refused = b'{"line":8,"number":1,"reason":"Syntax","reply":"refused"}'
+        for before, wanted in ((1_023, judged), (1_024, refused)):
             measure = [point % part] * before + [point % (part + 1_024)]
             line = (
                 'propose,1,{"certificate":{"cover":"line","measure":[%s]},"fills":["1/2","1/7",'
                 '"5/14"],"liability":"0","orders":[1,2,3],"surplus":"3/7"}\n' % ",".join(measure)
             ).encode()
             self.assertGreater(len(line), 65_536)
-            told = json.loads(ended(["serve"], PLACED + line).stdout.splitlines()[-1])
-            self.assertEqual(told.get("number"), number, told)
+            self.assertEqual(ended(["serve"], PLACED + line).stdout.splitlines()[-1], wanted)
+
+    def test_a_book_without_orders_is_proposed_for(self) -> None:
+        book = b'{"line":1,"market":12,"orders":[],"reply":"book","underlyings":8}\n'
+        self.assertTrue(ended(["propose"], book).stdout.startswith(b"propose,12,"))
 
 
 @built
 class Pieces(unittest.TestCase):
     def test_pieces_make_no_difference(self) -> None:
-        for words, given in (("serve", LINES), ("serve sessions", b"7,1,open,1\n\n8,1,open,2")):
+        book = ended(["serve"], PLACED + b"book,1\n").stdout.splitlines(True)[-1]
+        for words, given in (
+            ("serve", LINES),
+            ("serve sessions", b"7,1,open,1\n\n8,1,open,2"),
+            ("propose", book + b"open,1\n"),
+        ):
             whole = ended(words.split(), given).stdout
             for size in (1, 2, 3, 7, 10):
                 with self.subTest(words=words, size=size):
@@ -179,9 +194,10 @@ class Endings(unittest.TestCase):
         self.assertEqual((ran.returncode, ran.stdout, ran.stderr), (status, b"", said))
 
     def test_other_words_are_usage(self) -> None:
-        for words in OTHERS.split("|"):
+        nothing: list[str] = []
+        for words in (nothing, *(words.split(" ") for words in OTHERS.split("|"))):
             with self.subTest(words=words):
-                ran = ended(words.split(), SHORT)
+                ran = ended(words, SHORT)
                 self.assertEqual((ran.returncode, ran.stdout), (2, b""))
                 self.assertTrue(ran.stderr.startswith(b"usage: "), ran.stderr)
 

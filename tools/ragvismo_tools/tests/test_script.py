@@ -42,6 +42,13 @@ class Gate(Folder):
         self.assertEqual((len(set(names)), sorted(listed)), (len(names), sorted(names)))
         self.refused(run("wrong-bodies", "nothing"))
 
+    def test_a_bad_edit_has_its_status(self) -> None:
+        path = {"PATH": f"{self.folder}:{os.environ['PATH']}"}
+        for said, status, wanted in (("refused", 0, 0), ("BAD EDIT: why", 0, 1), ("", 3, 3)):
+            self.script("rt", f"#!/bin/sh\necho '{said}'\nexit {status}\n")
+            ran = run("wrong-bodies", "frac", env={**os.environ, **path})
+            self.assertEqual((ran.returncode, ran.stdout), (wanted, f"{said}\n".encode()))
+
     def test_a_record_of_the_gate_is_told(self) -> None:
         kept = self.folder / "kept"
         ran = [
