@@ -126,6 +126,8 @@ class Chains(unittest.TestCase):
         self.assertEqual(of_frame, of_file)
         names = [it.name for it in of_frame]
         self.assertEqual(names, ["108105 SPX 2019-01-18", "108105 SPXW 2019-01-18"])
+        named = import_chain(frame.assign(root=[None, "SPXW", None]))
+        self.assertEqual([len(it.batch.orders) for it in named], [2, 3])
 
     def test_cboe_as_it_comes(self) -> None:
         """Sizes are contracts, two times of a day stand in a row, and the underlying is a call."""
@@ -154,6 +156,13 @@ class Chains(unittest.TestCase):
             orders_of(close)[-2:], [("buy", "call 0", 31400, 1), ("sell", "call 0", 31410, 1)]
         )
 
+        for most in (1, 2, 3):
+            [few] = self.read(CBOE, *rows, underlying=True, most=most)
+            self.assertEqual(len(few.batch.orders), min(most, 2))
+        unquoted = cboe("C", "155.000", "0,0,0,0,157.90,157.92", "0,0,0,0,157.80,157.85")
+        [alone] = self.read(CBOE, unquoted, underlying=True, most=1)
+        self.assertEqual([it.side for it in alone.batch.orders], ["buy"])
+
     def test_interest(self) -> None:
         """A quote in money of the settlement is dearer, rounded so that nobody pays more."""
         row = ivydb("SPX 190118C2500000", "C", 2500000, "31.5", "32.4")
@@ -179,6 +188,12 @@ class Chains(unittest.TestCase):
         rows = ["AAQ.AE,x,1,C,5,1,2", "AAQ.AF,x,1,C,6,1,2"]
         [chain] = self.read("symbol,exdate,secid,cp_flag,strike,best_bid,best_offer", *rows)
         self.assertEqual(len(chain.batch.orders), 4)
+
+    def test_empty_lines_are_no_chain(self) -> None:
+        head = "exdate,cp_flag,strike,best_bid,best_offer"
+        rows = ["x,C,5,1,2", "", "x,P,5,1,2", ",,,,", " ", ""]
+        [chain] = self.read(head, *rows, discount=lambda about: {"x": "0.5"}[about["exdate"]])
+        self.assertEqual((len(chain.batch.orders), chain.left_out), (4, {}))
 
     def test_a_long_chain_is_cut(self) -> None:
         """To the strikes around that at which call and put cost the same, a whole strike each."""
@@ -376,6 +391,15 @@ class Frames(unittest.TestCase):
             self.assertLess(time.process_time() - start, 4)
         self.assertEqual((len(read.batches), len(read.orders), line), (400, 100_000, 100_400))
 
+    def fault(self, text: str) -> str:
+        """What is said of a text that is no journal."""
+        with tempfile.NamedTemporaryFile("w", encoding="utf-8") as journal:
+            journal.write(text)
+            journal.flush()
+            with self.assertRaises(ragvismo.BadJournal) as caught:
+                ragvismo.read_journal(journal.name)
+        return str(caught.exception)
+
     def test_what_is_no_journal(self) -> None:
         for text in (
             '{"line":1}',
@@ -383,12 +407,27 @@ class Frames(unittest.TestCase):
             "é",
             '{"line":1,"reply":"cleared"}',
             '{"account":1,"line":0,"reply":"opened"}',
+            '{"lapsed":0,"line":1,"market":1,"payouts":[{"account":1,"amount":1e999,"batch":1,'
+            '"order":1}],"reply":"settled"}',
         ):
-            with tempfile.NamedTemporaryFile("w", encoding="utf-8") as journal:
-                journal.write(text)
-                journal.flush()
-                with self.assertRaises(ragvismo.BadJournal):
-                    ragvismo.read_journal(journal.name)
+            self.fault(text)
+
+    def test_numbers_that_no_column_holds(self) -> None:
+        """Neither cut to whole ones nor another exception."""
+        text = (TOP / "examples/butterfly.replies").read_text()
+        for other in ("6.5", str(2**63), "1e2", '"6"'):
+            told = self.fault(text.replace('"price":6,', f'"price":{other},'))
+            self.assertIn("no reply line", told)
+
+    def test_the_line_of_a_fault_is_told(self) -> None:
+        opened, spoiled = (
+            '{"account":%d,"line":%d,"reply":"opened"}',
+            '{"line":2,"reply":"settled"}',
+        )
+        lines = [opened % (1, 1), spoiled, opened % (2, 3)]
+        self.assertIn("line 2 of", self.fault("\n".join(lines)))
+        gate = '{"line":9,"number":15,"reason":"Malformed","reply":"gate"}'
+        self.assertIn("line 2 of", self.fault("\n".join([*lines[:2], gate, ""])))
 
 
 @wants("pandas")

@@ -52,6 +52,7 @@ class Package(unittest.TestCase):
             ran = subprocess.run(install, capture_output=True, text=True)
             self.assertEqual(ran.returncode, 0, ran.stderr)
             self.assertTrue((folder / "site/ragvismo/py.typed").is_file())
+            (folder / "CHANGELOG.md").write_text("## 99.9\n")  # of whoever installs it there
             said = (
                 "import ragvismo; print(ragvismo.__version__, ragvismo.call(5), ragvismo.__file__)"
             )

@@ -258,8 +258,9 @@ class Figures(unittest.TestCase):
             self.assertIn(b"/Type0", (pathlib.Path(folder) / "drawn.pdf").read_bytes())
             with self.assertRaises(ValueError):
                 ragvismo.save(example("spread"), "drawn.txt")
-        with self.assertRaises(ValueError):
-            picture(example("spread"), limits=(5, 5))
+        for limits in ((5, 5), (0, float("inf")), (float("-inf"), 5), (0, 1e308)):
+            with self.assertRaises(ValueError):
+                picture(example("spread"), limits=limits)
         with self.assertRaises(ValueError):
             picture(example("basket_of_three"), axes=in_axes().axes[0])
 

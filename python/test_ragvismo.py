@@ -12,9 +12,10 @@ import subprocess
 import sys
 import tempfile
 import unittest
-from collections.abc import Callable
+from collections.abc import Callable, Iterator
 from fractions import Fraction
 from typing import Any, TypeVar, get_args
+from unittest import mock
 
 sys.path.append(str(pathlib.Path(__file__).resolve().parent))
 import ragvismo
@@ -114,6 +115,11 @@ def slow(batch: Batch) -> Proposal | None:
     raise ValueError(f"{len(batch.orders)} orders are too many")
 
 
+def counted(batch: Batch, **words: object) -> int:
+    """What stands for a clear: how many orders the batch has."""
+    return len(batch.orders)
+
+
 class Models(unittest.TestCase):
     def test_options_and_their_payoffs(self) -> None:
         cases: tuple[tuple[Option, str, tuple[int | Fraction, ...], int | Fraction], ...] = (
@@ -193,6 +199,37 @@ class Models(unittest.TestCase):
             it = example(name)
             self.assertEqual((it.mark, it.run, it.bound, it.gap), about)
             self.assertEqual(sum(of.premium for of in it.orders), it.premium)
+
+    def test_batches_that_cannot_be_made(self) -> None:
+        """What the batches raise comes behind the answers before it, and names its place."""
+
+        def made() -> Iterator[Batch]:
+            yield from [Batch([])] * 5
+            raise ragvismo.BadFrame("row 7")
+
+        for workers in (1, 2):
+            found: list[object] = []
+            with mock.patch.object(ragvismo.clearing, "clear", counted):
+                with self.assertRaises(ragvismo.BadFrame) as caught:
+                    found.extend(clear_many(made(), workers=workers))
+            self.assertEqual((found, str(caught.exception)), ([0] * 5, "batch 5: row 7"))
+
+    def test_a_function_keeps_its_own_time(self) -> None:
+        """What it takes is none of what the program may take, of which a stand-in tells a line."""
+        hours = [0.0]
+
+        def finds_nothing(batch: Batch) -> None:
+            hours[0] += 1
+
+        with tempfile.TemporaryDirectory() as folder:
+            told, answers = (pathlib.Path(folder) / name for name in ("told", "answers"))
+            told.write_text(example("butterfly").text + "\n")
+            answers.write_text(f'#!/bin/sh\nsed "s/.*/{{}}/; \\$d"\ncat "{told}"\n')
+            answers.chmod(0o700)
+            clock = mock.Mock(monotonic=lambda: 3600 * hours[0])
+            with mock.patch.object(program, "time", clock):
+                found = clear(butterfly(), solver=finds_nothing, timeout=60, path=answers)
+        self.assertEqual((found.surplus, hours), (Fraction(6, 7), [1]))
 
     def test_a_program_that_is_not_there(self) -> None:
         for path in ("none", str(TOP)):
@@ -286,6 +323,8 @@ class Clearing(unittest.TestCase):
             assert proposed
             self.assertLess(proposed.least_bound - proposed.best_surplus, Fraction(1, 10**6))
             self.assertIsNone(exchange.propose(market=1, solver=lambda batch: None))
+            exchange.market(market=2, underlyings=2)
+            self.assertIsNone(exchange.propose(market=2, solver=ragvismo.solvers.highs))
             wrong = Proposal(given.fills, Fraction(-1), "line", given.measure)
             with self.assertRaises(ragvismo.Refused) as caught:
                 exchange.propose(market=1, solver=wrong)

@@ -108,6 +108,10 @@ class Rechecks(unittest.TestCase):
                 ),
                 "Measure",
             ),
+            (
+                Proposal(given.fills, Fraction(0), "line", (*given.measure, State((0, 0), one))),
+                "Measure",
+            ),
         ):
             self.assertEqual(self.failed(batch, other), condition, other)
         nothing = Proposal((Fraction(0),) * 3, Fraction(0), "match", given.measure)
@@ -121,20 +125,26 @@ class Rechecks(unittest.TestCase):
         nodes = json.loads(text)
         leaf = next(at for at, node in enumerate(nodes) if node.get("leaf"))
         place = nodes[leaf]["leaf"][0]["at"]
-        changed = {
-            "BatchShape": [nodes[:-1], [*nodes, {"leaf": []}]],
-            "Cover": [
-                [{"split": 0}, *nodes[1:]],
-                [{"split": nodes[0]["split"]}, {"split": nodes[0]["split"]}, *nodes[1:]],
-                [{"leaf": []} if at == leaf else node for at, node in enumerate(nodes)],
-                json.loads(text.replace(f'{{"at": {place}, "by": "', f'{{"at": {place}, "by": "-')),
-                json.loads(text.replace(f'{{"at": {place}, "by": "', f'{{"at": {place}, "by": "9')),
+        beyond = {"at": 1 + sum(len(order.legs) for order in batch.orders), "by": "1"}
+        for cover in (
+            nodes[:-1],
+            [*nodes, {"leaf": []}],
+            [{"split": 0}, *nodes[1:]],
+            [{"split": nodes[0]["split"]}, {"split": nodes[0]["split"]}, *nodes[1:]],
+            [{"leaf": []} if at == leaf else node for at, node in enumerate(nodes)],
+            json.loads(text.replace(f'{{"at": {place}, "by": "', f'{{"at": {place}, "by": "-')),
+            json.loads(text.replace(f'{{"at": {place}, "by": "', f'{{"at": {place}, "by": "9')),
+            *(
+                json.loads(text.replace(f'{{"at": {place}, ', f'{more}, {{"at": {place}, '))
+                for more in (f'{{"at": {place}, "by": "-1"}}', '{"at": 0, "by": "1"}')
+            ),
+            [
+                {**node, "leaf": [*node["leaf"], beyond]} if at == leaf else node
+                for at, node in enumerate(nodes)
             ],
-        }
-        for condition, changes in changed.items():
-            for cover in changes:
-                proposal = Proposal(tuple(it.fills), it.liability, cover, measure)
-                self.assertEqual(self.failed(batch, proposal), condition, cover)
+        ):
+            proposal = Proposal(tuple(it.fills), it.liability, cover, measure)
+            self.assertEqual(self.failed(batch, proposal), "Cover", cover)
         long = [{"split": 1}] * 2_000
         proposal = Proposal(tuple(it.fills), it.liability, long, measure)
         self.assertEqual(self.failed(batch, proposal), "Cover")
@@ -174,6 +184,9 @@ class Rechecks(unittest.TestCase):
             ("Cover", {"full": [2, 3], "leaf": [3, "1"]}),
             ("Cover", split),
             ("BatchShape", {"leaf": [4, "1"]}),
+            ("BatchShape", {"leaf": [3, "1", 2, "1"]}),
+            ("BatchShape", {"leaf": [2, "-1", 2, "1", 3, "1"]}),
+            ("BatchShape", {"full": [2, 2], "leaf": [3, "1"]}),
             ("BatchShape", {"bound": 2, "minus": [], "plus": []}),
         ):
             ends = (first, last, last) if node == split else (last,)
@@ -350,6 +363,10 @@ class Certificates(unittest.TestCase):
             with self.assertRaises(Unproved) as caught:
                 solvers.certify(batch, fills, measure)
             self.assertEqual(caught.exception.failed, condition)
+        on_two = example("basket")
+        with self.assertRaises(Unproved) as caught:
+            solvers.certify(on_two.to_batch(), on_two.fills, [ORIGIN])
+        self.assertEqual(caught.exception.failed, "BatchShape")
 
     def test_measures_from_floats(self) -> None:
         states = [(1, 0), (2, 5), (0, 1)]
@@ -393,6 +410,27 @@ class Highs(unittest.TestCase):
             found = solvers.highs(Batch(orders))
             self.assertEqual(found.surplus(Batch(orders)), surplus)
             self.assertEqual(found.bound(Batch(orders)), surplus)
+
+    def test_amounts_of_every_size(self) -> None:
+        """Four orders in finer ticks and for more options leave as much in proportion."""
+        for tick, many in (
+            (1, 10**6),
+            (1_000, 10**3),
+            (10**5, 10**4),
+            (10**7, 1),
+            (10**7, 10**6),
+        ):
+            batch = Batch(
+                [
+                    buy(call(10 * tick), 6 * tick, many),
+                    sell(call(5 * tick), 8 * tick, many),
+                    buy(put(12 * tick), 9 * tick, many),
+                    sell(put(15 * tick), 7 * tick, many),
+                ]
+            )
+            found, greatest = solvers.highs(batch), Fraction(19, 5) * tick * many
+            self.assertGreater(found.surplus(batch), greatest * (1 - Fraction(1, 10**6)))
+            self.assertLess(found.bound(batch), greatest * (1 + Fraction(1, 10**6)))
 
     def test_leaves_that_floats_do_not_close(self) -> None:
         """A batch on four underlyings with a leaf whose multipliers in floats are far from those

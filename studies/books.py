@@ -8,7 +8,8 @@ from __future__ import annotations
 
 import math
 import random
-from collections.abc import Callable
+from collections.abc import Callable, Sequence
+from operator import mul
 from statistics import NormalDist
 
 from ragvismo import Batch, Option, Order, buy, call, put, sell
@@ -19,10 +20,12 @@ SINGLE, PAIR, INDEX = 60, 15, 20
 Kind = Callable[[int, int, random.Random], Batch]
 
 
-def worth(option: Option, mean: float, deviation: float) -> float:
-    """What an option pays on average, in ticks, where the weighted price is normal."""
-    normal, above = NormalDist(), mean - option.strike
-    high = (above if option.kind == "call" else -above) / deviation
+def worth(option: Option, prices: Sequence[float]) -> float:
+    """What an option pays on average, in ticks, where each price is normal about one of these. By
+    its form: the kind and the strike that an option tells are for weights that begin above 0."""
+    normal, (first, *weights) = NormalDist(), option.form
+    deviation = DEVIATION * math.hypot(*weights)
+    high: float = (first + sum(map(mul, weights, prices))) / deviation
     return deviation * (high * normal.cdf(high) + normal.pdf(high))
 
 
@@ -31,8 +34,8 @@ def order(weights: list[int], draw: random.Random) -> Order:
     middle, deviation = MIDDLE * sum(weights), DEVIATION * math.hypot(*weights)
     strike = GRID * round(draw.gauss(middle, deviation / 2) / GRID)
     option = draw.choice((call, put))(strike, *weights)
-    believed = sum(weight * draw.gauss(MIDDLE, DOUBT) for weight in weights)
-    value, quantity = worth(option, believed, deviation), draw.randint(1, 10)
+    value = worth(option, [draw.gauss(MIDDLE, DOUBT) for _ in weights])
+    quantity = draw.randint(1, 10)
     if draw.random() < 0.5:
         return buy(option, max(math.floor(value - HALF_SPREAD), 0), quantity)
     return sell(option, math.ceil(value + HALF_SPREAD), quantity)

@@ -27,7 +27,7 @@ from collections.abc import Iterable
 import common
 import spreads
 from common import BadInput, Given, Pair, Table
-from ragvismo import Chain, import_chain
+from ragvismo import Chain, Cleared, import_chain
 
 TAKEN = ("Chain", "Orders", "Strikes (ticks)", "Exercise", "Units a contract", "Left out")
 MATCHED = (
@@ -38,6 +38,9 @@ QUOTED = (
     *("Chain", "Options", "Better", "Exact spread: own quotes", "whole book", "fall, %"),
     *("Whole: own quotes", "whole book", "fall, %"),
 )
+
+# What stands where a clear that would tell a price is not marked optimal.
+UNTOLD = "not told"
 
 
 def taken(chain: Chain) -> list[object]:
@@ -62,13 +65,22 @@ def matched(chain: Chain, pair: Pair) -> list[object]:
 
 
 def quoted(chain: Chain, found: spreads.Chain) -> list[object]:
-    """The cells of a row that tell what the book of a chain says of prices."""
+    """The cells of a row that tell what the book of a chain says of prices, where it does."""
     better = sum(it.is_better for it in found.spreads)
-    cells: list[object] = [chain.name, len(found.spreads), better]
+    cells: list[object] = [chain.name, len(found.spreads), better if found.is_told else UNTOLD]
     for kind in ("exact", "whole"):
-        means = (it / max(len(found.spreads), 1) for it in found.spread(kind))
-        cells += [*(f"{it:.2f}" for it in means), f"{found.fall(kind):.1f}"]
+        own, whole = (it / max(len(found.spreads), 1) for it in found.spread(kind))
+        told = [f"{whole:.2f}", f"{found.fall(kind):.1f}"] if found.is_told else [UNTOLD] * 2
+        cells += [f"{own:.2f}", *told]
     return cells
+
+
+def spreads_of(chain: Chain, pair: Pair, given: Given) -> tuple[spreads.Chain, list[Cleared]]:
+    """What the book of a chain says of prices, and what was cleared for it."""
+    try:
+        return spreads.quote_chain(chain.batch, given)
+    except spreads.NotOptimal:
+        return spreads.unmarked(chain.batch, pair.joint), []
 
 
 def report(chains: list[Chain], given: Given) -> Iterable[Table]:
@@ -76,7 +88,7 @@ def report(chains: list[Chain], given: Given) -> Iterable[Table]:
     rows, more = [], []
     for place, it in enumerate(chains, 1):
         pair = common.clear_both(it.batch, given)
-        found, lines = spreads.quote_chain(it.batch, given)
+        found, lines = spreads_of(it, pair, given)
         common.audit([*pair, *lines], given, f"chain-{place}")
         rows.append(matched(it, pair))
         more.append(quoted(it, found))

@@ -3,7 +3,7 @@ tables, figures."""
 from __future__ import annotations
 
 import argparse
-import importlib
+import importlib.util
 import json
 import logging
 import pathlib
@@ -274,6 +274,9 @@ def asked(about: str | None, batches: int) -> Given:
     for folder in (given.out, given.journals):
         if folder and not folder.is_dir():
             raise BadInput(f"{folder} is no folder")
+    for module in ["scipy"] + ["matplotlib"] * bool(given.out):  # before hours of trials
+        if not importlib.util.find_spec(module):
+            raise BadInput(f"python3-{module} is missing; tools/setup installs it")
     for file in results(given):
         if given.batches != batches and tracked.is_tracked(file):
             raise BadInput(f"{file} is tracked, and this is not the whole study")

@@ -58,8 +58,13 @@ HEAD = (
 )
 # From here on a further buy adds something, if it does at any price.
 HIGHEST = Fraction(10**9)
+UNMARKED = PriceBounds("unmarked", "unmarked")
 # What is varied, and its value.
 Case = tuple[str, int]
+
+
+class NotOptimal(BadInput):
+    """A clear that would tell a price is not marked optimal."""
 
 
 class Spread(NamedTuple):
@@ -101,6 +106,11 @@ class Chain(NamedTuple):
     surplus: float
     spreads: list[Spread]
 
+    @property
+    def is_told(self) -> bool:
+        """Whether the clears that tell the prices by the whole book are marked optimal."""
+        return all(it.bounds != UNMARKED for it in self.spreads)
+
     def spread(self, kind: str) -> tuple[float, float]:
         """The sums of the spreads by the own quotes and by the whole book."""
         if kind == "exact":
@@ -135,8 +145,7 @@ def quote_chain(batch: Batch, given: Given) -> tuple[Chain, list[Cleared]]:
     cleared = common.clear_together([batch], given)
     base, standing = cleared[0], list(best(batch.orders))
     if base.mark != "optimal":
-        none = PriceBounds("unmarked", "unmarked")
-        return Chain(float(base.surplus), [Spread(*it, none) for it in standing]), cleared
+        return unmarked(batch, base), cleared
     sides = [
         it
         for option, _, _ in standing
@@ -157,6 +166,11 @@ def quote_chain(batch: Batch, given: Given) -> tuple[Chain, list[Cleared]]:
     return Chain(float(base.surplus), spreads), cleared
 
 
+def unmarked(batch: Batch, base: Cleared) -> Chain:
+    """A book of which no prices are told."""
+    return Chain(float(base.surplus), [Spread(*it, UNMARKED) for it in best(batch.orders)])
+
+
 def nearer(
     batch: Batch, base: Cleared, sides: Sequence[Way], given: Given
 ) -> tuple[list[Way], list[Cleared]]:
@@ -170,11 +184,14 @@ def nearer(
 
 
 def moved(side: Way, order: Order | None, base: Cleared, replies: Any) -> Way:
+    if side.is_found:
+        return side
     if order is None:
-        return side._replace(is_found=True)
+        raise NotOptimal(f"no order can be at {side.price} for the {side.option}")
     found = next(replies)
     if found.mark != "optimal":
-        raise BadInput(f"with the {side.option} at {side.price} the book is not cleared optimally")
+        told = f"with the {side.option} at {side.price} the book is not cleared optimally"
+        raise NotOptimal(told)
     if found.surplus == base.surplus:
         return side._replace(is_found=True)
     options = sum(leg.count * times_of(leg.option, side.option) for leg in order.legs)
@@ -194,7 +211,7 @@ def confirm(batch: Batch, spreads: Sequence[Spread], given: Given) -> None:
     for it, reply in zip(spreads, replies):
         wanted = tuple(map(str, it.whole))
         told = reply["bid"], reply["ask"]
-        if told != wanted and "never" not in told:
+        if told != wanted and not {"never", "unmarked"} & set(told):
             raise BadInput(f"the line price tells {reply} of the {it.option}, not {wanted}")
 
 
@@ -202,7 +219,10 @@ def one(case: Case, number: int, given: Given) -> tuple[Chain, list[Cleared]]:
     varied, value = case
     about = {**USUAL, varied: value}
     draw = random.Random(f"spreads {number}")
-    return quote_chain(quotes(about["strikes"], about["noise"], draw), given)
+    chain, cleared = quote_chain(quotes(about["strikes"], about["noise"], draw), given)
+    if not chain.is_told:
+        raise NotOptimal("a book is not cleared optimally")
+    return chain, cleared
 
 
 def measures(chains: Sequence[Chain]) -> list[object]:

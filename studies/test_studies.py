@@ -3,6 +3,7 @@ from __future__ import annotations
 
 import importlib.util
 import json
+import math
 import os
 import pathlib
 import random
@@ -13,12 +14,16 @@ import tempfile
 import time
 import unittest
 from collections.abc import Callable, Hashable, Iterable
-from typing import TypeVar
+from decimal import Decimal
+from fractions import Fraction
+from operator import mul
+from typing import Any, TypeVar
 from unittest import mock
 
 HERE = pathlib.Path(__file__).resolve().parent
 sys.path += [str(HERE), str(HERE.parent / "python")]
 import books
+import chain
 import chains
 import combinations
 import common
@@ -28,9 +33,10 @@ import over_time
 import payments
 import spreads
 import strikes
-from ragvismo import Cleared, call, price_bounds, program, put
+from ragvismo import Batch, Chain, Cleared, buy, call, price_bounds, program, put, sell
+from ragvismo.prices import order_at
 from ragvismo_tools import tracked
-from test_ragvismo import PYTHON, TOP, wants, wants_program
+from test_ragvismo import PYTHON, TOP, example, wants, wants_program
 
 NAMES = ("one_market", "spreads", "strikes", "combinations", "payments", "over_time", "lots")
 PLAIN = common.Given(None, None)
@@ -173,7 +179,18 @@ class Studies(unittest.TestCase):
             self.assertAlmostEqual(of_call - of_put, chains.MIDDLE - strike)
             self.assertGreater(min(of_call, of_put), 0)
         self.assertAlmostEqual(chains.worth(call(1000)), 79.656, 3)
-        self.assertAlmostEqual(books.worth(call(100, 1, 1), 100, 20), 7.979, 3)
+        self.assertAlmostEqual(books.worth(call(100, 1), [100]), 7.979, 3)
+        prices = 90, 105
+        for weights in ((1, 1), (2, -1), (-1, 2), (-1, 0), (-1, -1), (0, -2)):
+            mean = sum(map(mul, weights, prices))
+            for strike in (mean - 30, mean, mean + 10):
+                of_call, of_put = (books.worth(it(strike, *weights), prices) for it in (call, put))
+                self.assertAlmostEqual(of_call - of_put, mean - strike)
+                turned = books.worth(put(-strike, *(-it for it in weights)), prices)
+                self.assertAlmostEqual(of_call, turned)
+            self.assertAlmostEqual(
+                books.worth(call(mean, *weights), prices), 7.979 * math.hypot(*weights), 2
+            )
 
     def test_bad_use(self) -> None:
         """All studies read their words by the same lines."""
@@ -288,6 +305,16 @@ class Machines(unittest.TestCase):
             self.assertEqual(self.written("two", "--workers", "2", study=study), alone)
             self.assertEqual(self.written("dask", "--scheduler", address, study=study), alone)
 
+    def test_what_its_results_want_is_tried_first(self) -> None:
+        out = ["lots.py", "--out", str(self.folder)]
+        for missing, words in (("scipy", out[:1]), ("scipy", out), ("matplotlib", out)):
+            found = mock.Mock(side_effect=lambda name: name != missing)
+            with mock.patch.object(importlib.util, "find_spec", found):
+                with mock.patch.object(sys, "argv", words):
+                    with self.assertRaises(common.BadInput) as caught:
+                        common.asked(None, 2)
+            self.assertIn(f"python3-{missing} is missing", str(caught.exception))
+
     def test_what_is_missing_is_told(self) -> None:
         (self.folder / "distributed.py").write_text("raise ImportError")
         one, other = ["--scheduler", "tcp://here:8786"], ["--workers", "2"]
@@ -318,11 +345,42 @@ class Claims(unittest.TestCase):
 
 
 class ChainData(unittest.TestCase):
+    def test_a_book_without_optimal_clears_tells_no_prices(self) -> None:
+        """Neither as if it added nothing, nor as an end for the other chains of a file."""
+        optimal, stopped = example("joint", 1), example("joint", 3)
+        orders = [buy(call(10), 5), sell(call(10), 8)]
+        about: dict[str, Any] = dict.fromkeys(("multiplier", "exercise", "strikes"))
+        made = Chain(
+            {"file": "made"}, Batch(orders), Decimal(1), discount=Fraction(1), left_out={}, **about
+        )
+        pair = common.Pair(stopped, stopped)
+        for answers in ([[stopped]], [[optimal], [stopped]]):
+            with mock.patch.multiple(
+                common,
+                clear_both=lambda *_: pair,
+                clear_together=mock.Mock(side_effect=answers),
+                audit=mock.DEFAULT,
+            ):
+                told = list(chain.report([made], PLAIN))[2].rows[0]
+            untold = [chain.UNTOLD] * 2
+            self.assertEqual(told, ["made", 1, chain.UNTOLD, "3.00", *untold, "5.00", *untold])
+
     def ran(self, text: str, *words: str) -> "subprocess.CompletedProcess[str]":
         with tempfile.TemporaryDirectory() as folder:
             path = pathlib.Path(folder) / "made.csv"
             path.write_text(text)
             return subprocess.run([HERE / "chain.py", path, *words], capture_output=True, text=True)
+
+    def test_a_price_that_no_order_can_have_is_not_told(self) -> None:
+        """As `price_bounds` has it: it is no bound yet."""
+        way, base = spreads.Way(call(9), "buy", Fraction(1, 10**7), is_raised=True), example(
+            "joint", 1
+        )
+        self.assertIsNone(order_at(way.side, way.option, way.price))
+        with self.assertRaises(spreads.NotOptimal):
+            spreads.moved(way, None, base, iter(()))
+        found = way._replace(is_found=True)
+        self.assertEqual(spreads.moved(found, None, base, iter(())), found)
 
     @wants_program
     def test_two_chains_of_one_file(self) -> None:

@@ -5,6 +5,7 @@ from __future__ import annotations
 import math
 from collections.abc import Iterable, Mapping, Sequence
 from fractions import Fraction
+from itertools import pairwise
 from typing import Any, NamedTuple
 
 from ragvismo.faults import Unproved
@@ -12,6 +13,8 @@ from ragvismo.faults import Unproved
 Form = tuple[int, ...]
 Vector = list[Fraction]
 Node = dict[str, Any]
+# The lists of a node in which classes and multipliers stand in turn.
+FLAT = ("minus", "plus", "leaf")
 # A form of an option, and how much of it the house owes; of what it is owed, less than 0.
 Owed = tuple[Form, Fraction]
 
@@ -63,11 +66,15 @@ def multipliers_in(flat: Sequence[Any]) -> dict[int, Fraction]:
     return {class_: Fraction(by) for class_, by in zip(flat[::2], flat[1::2])}
 
 
-def named(node: Node) -> list[int]:
-    """The classes that a node names."""
-    lists = [node.get(key, [])[::2] for key in ("minus", "plus", "leaf")]
-    own = [node[key] for key in ("split", "bound") if key in node]
-    return [*own, *node.get("full", []), *(class_ for each in lists for class_ in each)]
+def named(node: Node) -> list[list[int]]:
+    """The classes that a node names, list by list."""
+    own = [[node[key]] for key in ("split", "bound") if key in node]
+    return [*own, node.get("full", []), *(node.get(key, [])[::2] for key in FLAT)]
+
+
+def do_rise(numbers: Sequence[int], most: int) -> bool:
+    """Whether numbers rise, from 1 on and up to the most."""
+    return all(one < after for one, after in pairwise([0, *numbers, most + 1]))
 
 
 def check_shape(nodes: Sequence[Node], classes: int) -> None:
@@ -76,8 +83,8 @@ def check_shape(nodes: Sequence[Node], classes: int) -> None:
     for node in nodes:
         if not left:
             raise Unproved("BatchShape", "nodes stand behind the end of the tree")
-        if any(class_ not in range(1, classes + 1) for class_ in named(node)):
-            raise Unproved("BatchShape", f"a node names a class that is none of {classes}")
+        if not all(do_rise(each, classes) for each in named(node)):
+            raise Unproved("BatchShape", f"the classes of a node do not rise from 1 to {classes}")
         left += 1 if "split" in node else 0 if "bound" in node else -1
     if left:
         raise Unproved("BatchShape", "the tree ends before its leaves")

@@ -166,7 +166,7 @@ def import_chain(
     with _Rows(source, at) as rows:
         for cells in rows:
             about = rows.about(cells)
-            key = tuple(about.items())
+            key = tuple(sorted(about.items()))  # a root stands elsewhere where a contract tells it
             if key not in chains:
                 chains[key] = _Making(about, rules)
             chains[key].take(rows.named(cells), thousandths=rows.thousandths)
@@ -219,7 +219,9 @@ class _Rows:
     def __iter__(self) -> Iterator[Cells]:
         try:
             for row in self.rows:
-                yield dict(zip(self.head, map(_text, row)))
+                cells = dict(zip(self.head, map(_text, row)))
+                if any(cells.values()):  # an empty line is no row
+                    yield cells
         except READING as fault:
             raise BadChain(f"the file cannot be read on: {fault}") from None
 
@@ -310,7 +312,7 @@ class _Making:
             for side, price in self.stock.items()
             if self.rules.underlying
             for it in self.quoted(side, call(0), str(price), "1")
-        ]
+        ][: self.rules.most]
         kept = self.cut(self.rules.most - len(stock))
         strikes = [it.option.strike for it in kept]
         styles = {EXERCISE.get(it) for it in self.exercises}

@@ -53,10 +53,16 @@ def clear(
         raise ValueError(f"a mechanism is joint or each, not {mechanism!r}")
     if solver is not None and mechanism == "each":
         raise ValueError("a solver is asked where a batch is cleared jointly")
+    if solver not in (None, "exchange") and not callable(solver):
+        raise ValueError(f"a solver is exchange or a function, not {solver!r}")
+    proposed = _proposed(batch, solver) if callable(solver) else ""
     deadline = program.Deadline(timeout)
+    if solver == "exchange":
+        book = book_line(batch) + "\n"
+        proposed = program.run(book, "propose", path, deadline.left()).rstrip("\n")
     commands = list(commands_of(batch, budget if mechanism == "joint" else 1))
-    if solver is not None and (line := _proposed(batch, solver, deadline, path)):
-        commands.insert(-1, line)
+    if proposed:
+        commands.insert(-1, proposed)
     text = "".join(f"{line}\n" for line in commands)
     lines = program.run(text, "serve", path, deadline.left()).splitlines()
     for command, line in zip(commands, lines, strict=True):
@@ -107,17 +113,31 @@ def _named(found: Iterator[Cleared]) -> Iterator[Cleared]:
 def _by_workers(
     one: Callable[[Batch], Cleared], batches: Iterable[Batch], workers: int
 ) -> Iterator[Cleared]:
-    ahead = iter(batches)
     with ProcessPoolExecutor(workers) as pool:
+        ahead = _asked(pool, one, batches)
         waiting: deque[Future[Cleared]] = deque()
         try:
-            waiting.extend(pool.submit(one, it) for it in islice(ahead, 2 * workers))
+            waiting.extend(islice(ahead, 2 * workers))
             while waiting:
                 yield waiting.popleft().result()
-                waiting.extend(pool.submit(one, it) for it in islice(ahead, 1))
+                waiting.extend(islice(ahead, 1))
         finally:
             for each in waiting:
                 each.cancel()
+
+
+def _asked(
+    pool: ProcessPoolExecutor, one: Callable[[Batch], Cleared], batches: Iterable[Batch]
+) -> Iterator[Future[Cleared]]:
+    """The answers that come; what the batches themselves raise comes in the place of its batch,
+    behind the answers before it."""
+    try:
+        for it in batches:
+            yield pool.submit(one, it)
+    except Exception as fault:
+        failed: Future[Cleared] = Future()
+        failed.set_exception(fault)
+        yield failed
 
 
 def commands_of(batch: Batch, budget: int = BUDGET) -> Iterator[str]:
@@ -141,15 +161,8 @@ def _needs(batch: Batch) -> dict[int, int]:
     return needs
 
 
-def _proposed(
-    batch: Batch, solver: Solver, deadline: program.Deadline, path: program.Path | None
-) -> str:
-    """The line that proposes what a solver found, empty where it found nothing."""
-    if solver == "exchange":
-        book = book_line(batch) + "\n"
-        return program.run(book, "propose", path, deadline.left()).rstrip("\n")
-    if not callable(solver):
-        raise ValueError(f"a solver is exchange or a function, not {solver!r}")
+def _proposed(batch: Batch, solver: Callable[[Batch], Proposal | None]) -> str:
+    """The line that proposes what a function found, empty where it found nothing."""
     proposal = solver(batch)
     return proposal.line(1, batch, range(1, len(batch.orders) + 1)) if proposal else ""
 

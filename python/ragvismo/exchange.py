@@ -349,14 +349,18 @@ class Exchange:
     ) -> Proposed | None:
         """Proposes how the live orders of a market be filled, as they stand: a `Proposal`, or what
         the program's own solver or a function finds, None where that finds nothing. The next clear
-        of just these orders takes the best of what was proposed where its own run gives up.
+        of just these orders takes the best of what was proposed where its own run gives up. A
+        function is not asked where there is no order: a batch of none is on one underlying.
         """
         book = self.book(market=market)
         if solver == "exchange":
             told = self.replies[-1] + "\n"
             line = program.run(told, "propose", self.path, self.timeout).rstrip("\n")
         else:
-            found = solver(book.batch) if callable(solver) else solver
+            if callable(solver):
+                found = solver(book.batch) if book.orders else None
+            else:
+                found = solver
             numbers = [it.number for it in book.orders]
             line = found.line(market, book.batch, numbers) if found else ""
         if not line:

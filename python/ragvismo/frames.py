@@ -3,6 +3,7 @@
 from __future__ import annotations
 
 import gc
+import operator
 import pathlib
 import re
 from collections.abc import Callable
@@ -13,6 +14,7 @@ from typing import TYPE_CHECKING, Any
 
 from ragvismo import journals
 from ragvismo.cleared import states_of
+from ragvismo.faults import BadJournal
 from ragvismo.orders import Leg, Option, cash_of
 from ragvismo.program import Path
 
@@ -101,6 +103,8 @@ def read_journal(path: Path, floats: bool = False) -> JournalFrames:
         return JournalFrames(
             **{name: frame_of(columns, floats) for name, columns in reader.frames.items()}
         )
+    except (OverflowError, TypeError) as fault:
+        raise BadJournal(f"{path} has a number that no reply line has: {fault}") from None
     finally:
         if was_collecting:
             gc.enable()
@@ -120,7 +124,9 @@ def frame_of(columns: dict[str, list[Any]], floats: bool = False) -> "pandas.Dat
                 [numpy.nan if it is None else float(it) for it in cells], dtype=float
             )
         # fromiter takes the objects as they are, where an array of a list would look into each
-        of: Any = "int64" if name in SIZED else bool if name == "is_ray" else object
+        if name in SIZED:  # of a number that is not whole it would drop the rest
+            return numpy.fromiter(map(operator.index, cells), dtype="int64", count=len(cells))
+        of: Any = bool if name == "is_ray" else object
         return numpy.fromiter(cells, dtype=of, count=len(cells))
 
     return pandas.DataFrame({name: array(name, cells) for name, cells in columns.items()})

@@ -39,6 +39,7 @@ FAULTS = (
     TypeError,
     ValueError,
     ZeroDivisionError,
+    OverflowError,
     StopIteration,
     AttributeError,
     IndexError,
@@ -178,10 +179,11 @@ def take_all(path: Path, take: Callable[[dict[str, Any], str], None]) -> None:
     number the last is the line's. Raises `BadJournal` where the file cannot be read, or a line is
     no reply, or its number does not follow.
     """
-    held: tuple[dict[str, Any], str] | None = None
+    held: tuple[int, dict[str, Any], str] | None = None
     place, last, decode = 0, 0, json.JSONDecoder().raw_decode
     try:
-        for place, text in enumerate(lines(path), 1):
+        for number, text in enumerate(lines(path), 1):
+            place = number
             answer, end = decode(text)
             if text[end:] not in ("\n", ""):
                 raise ValueError("more than one object on a line")
@@ -194,11 +196,13 @@ def take_all(path: Path, take: Callable[[dict[str, Any], str], None]) -> None:
                 told = f"line {place} of {path} has the number {reply['line']} after {last}"
                 raise BadJournal(f"{told}: it is no journal of one run")
             if held and reply["line"] > last:
-                take(*held)
+                place = held[0]
+                take(*held[1:])
             last = reply["line"]
-            held = (reply, text[:end] if reply is answer else "")
+            held = (number, reply, text[:end] if reply is answer else "")
         if held:
-            take(*held)
+            place = held[0]
+            take(*held[1:])
     except UnicodeDecodeError:
         raise BadJournal(f"{path} is no journal: it is not ASCII") from None
     except FAULTS:

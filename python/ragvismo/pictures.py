@@ -31,6 +31,7 @@ LOOK: dict[str, Any] = {
     "figure.dpi": 100,
 }
 BARS = 60  # so many bars would fill an axis of prices
+FARTHEST = 1e15  # no price that is shown is farther from 0
 LAYOUTS: dict[Size, Layout] = {"page": Layout(7.0, 8, 14), "column": Layout(3.4, 6.5, 8)}
 
 
@@ -54,8 +55,8 @@ def picture(
     from matplotlib import pyplot
 
     layout = LAYOUTS[size]
-    if limits and not limits[0] < limits[1]:
-        raise ValueError(f"the limits {limits} do not rise")
+    if limits and not -FARTHEST <= limits[0] < limits[1] <= FARTHEST:
+        raise ValueError(f"the limits {limits} do not rise, or are beyond all prices")
     with matplotlib.rc_context({**LOOK, "font.size": layout.letters}):
         if axes is not None:
             return _into(axes, of, layout, title, limits)

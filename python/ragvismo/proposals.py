@@ -117,12 +117,17 @@ def check_count(batch: Batch, fills: Sequence[Fraction]) -> None:
         )
 
 
+def check_states(batch: Batch, measure: Sequence[State]) -> None:
+    """The states are on the batch's underlyings."""
+    if any(len(it.entries) != batch.underlyings + 1 for it in measure):
+        raise Unproved("BatchShape", f"a state is not one on {batch.underlyings} underlyings")
+
+
 def check_shape(batch: Batch, proposal: Proposal) -> None:
     """There is a fill for each order, and cover and measure are of the batch's underlyings."""
     cover, legs = proposal.cover, sum(len(it.legs) for it in batch.orders)
     check_count(batch, proposal.fills)
-    if any(len(it.entries) != batch.underlyings + 1 for it in proposal.measure):
-        raise Unproved("BatchShape", f"a state is not one on {batch.underlyings} underlyings")
+    check_states(batch, proposal.measure)
     if isinstance(cover, dict):
         forms = [leg.option.form for order in batch.orders for leg in order.legs]
         cells.check_shape(cover["cells"], len(cells.classes_of(forms)))
@@ -146,6 +151,8 @@ def check_fills(batch: Batch, fills: Sequence[Fraction]) -> None:
 def check_measure(measure: Sequence[State]) -> None:
     if any(it.weight < 0 or min(it.entries) < 0 for it in measure):
         raise Unproved("Measure", "an entry or a weight is below 0")
+    if not all(any(it.entries) for it in measure):
+        raise Unproved("Measure", "the entries of a state are all 0")
     if sum(it.mass for it in measure) != 1:
         raise Unproved("Measure", "the masses do not sum to 1")
 
@@ -196,7 +203,7 @@ def check_tree(
     ahead: list[dict[int, int]] = [{}]  # the signs above each subtree that is still to come
     for node in nodes:
         if not ahead:
-            raise Unproved("BatchShape", "nodes stand behind the end of the tree")
+            raise Unproved("Cover", "nodes stand behind the end of the tree")
         signs = ahead.pop()
         if "split" in node:
             at = node["split"] - 1
@@ -204,12 +211,14 @@ def check_tree(
                 raise Unproved("Cover", f"a split at leg {at + 1}, which is not free")
             ahead += [{**signs, at: -1}, {**signs, at: 1}]
         else:
+            if not cells.do_rise([it["at"] for it in node["leaf"]], len(legs)):
+                raise Unproved("Cover", f"the places of a leaf do not rise from 1 to {len(legs)}")
             multipliers = {it["at"] - 1: Fraction(it["by"]) for it in node["leaf"]}
             entries = leaf_entries(legs, signs, multipliers, len(most))
             if any(entry > limit for entry, limit in zip(entries, most)):
                 raise Unproved("Cover", f"a leaf with the entries {', '.join(map(str, entries))}")
     if ahead:
-        raise Unproved("BatchShape", "the tree ends before its leaves")
+        raise Unproved("Cover", "the tree ends before its leaves")
 
 
 def leaf_entries(

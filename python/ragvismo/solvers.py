@@ -23,6 +23,7 @@ from ragvismo.proposals import (
     check_count,
     check_fills,
     check_measure,
+    check_states,
     is_match,
     line_states,
 )
@@ -33,6 +34,9 @@ ROUNDS, STARTS = 400, 12
 # Where that costs more than a small part of the bound, it is tried without.
 MORE_ON_RAYS, SMALL = 1 + 2.0**-26, 1e-6
 FILL, MASS = 2**40, 2**40
+# Where the rows hold more ticks, the liability is counted in units of the most: beside so much its
+# own factor is small, and HiGHS takes factors below 1e-9 for nothing.
+MUCH = 2.0**20
 # By how much orders that are owed something are filled less, where a cover is not found.
 LESS = (Fraction(0), Fraction(1, 2**24), Fraction(1, 2**16), Fraction(1, 2**8))
 
@@ -54,6 +58,7 @@ def certify(
     """
     whole, states = tuple(map(Fraction, fills)), tuple(measure)
     check_count(batch, whole)
+    check_states(batch, states)
     check_fills(batch, whole)
     check_measure(states)
     if batch.underlyings == 1:
@@ -227,8 +232,11 @@ class _Master:
         from scipy.optimize import linprog
 
         money = max(float((self.prices * self.quantities).max()), 1.0)
-        costs = self.numpy.append(-self.signs * self.prices * self.quantities, 1.0) / money
         rows = self.numpy.array(self.rows)
+        most = float(self.numpy.abs(rows).max())
+        unit = most if most > MUCH else 1.0
+        costs = self.numpy.append(-self.signs * self.prices * self.quantities, unit) / money
+        rows[:, -1] *= unit
         scale = self.numpy.maximum(self.numpy.abs(rows).max(axis=1), NEAR)
         bounds = [*[(0, 1)] * len(self.fills), (None, None)]
         found = linprog(
@@ -241,7 +249,7 @@ class _Master:
         )
         if found.x is None:
             return
-        self.fills, self.liability = found.x[:-1], float(found.x[-1])
+        self.fills, self.liability = found.x[:-1], float(found.x[-1]) * unit
         self.weights = -found.ineqlin.marginals * money / scale
 
     # The worst state.

@@ -6,12 +6,15 @@ import pathlib
 import re
 from importlib import metadata
 
-CHANGES = pathlib.Path(__file__).resolve().parents[2] / "CHANGELOG.md"
+FOLDER = pathlib.Path(__file__).resolve().parents[1]
+CHANGES = FOLDER.parent / "CHANGELOG.md"
 
 
 def version() -> str:
-    """In a checkout the first version of CHANGELOG.md, else that of the installed package."""
-    if CHANGES.is_file() and (found := re.search(r"^## (\d[\d.]*)", CHANGES.read_text(), re.M)):
+    """In a checkout, whose folder python says how the package is built, the first version of
+    CHANGELOG.md, else that of the installed package."""
+    is_checkout = (FOLDER / "pyproject.toml").is_file() and CHANGES.is_file()
+    if is_checkout and (found := re.search(r"^## (\d[\d.]*)", CHANGES.read_text(), re.M)):
         return found[1]
     return metadata.version("ragvismo")
 

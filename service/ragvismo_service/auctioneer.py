@@ -37,7 +37,7 @@ from ragvismo_service.books import (
 from ragvismo_service.chain import Answered
 from ragvismo_service.following import Follower
 from ragvismo_service.markets import Closing, Market, Markets, Said
-from ragvismo_service.messages import answer_of, order_of
+from ragvismo_service.messages import answer_of, order_of, time_of
 from ragvismo_service.places import Keys
 from ragvismo_service.statuses import BadUse, Status, table
 from ragvismo_service.store import Store
@@ -172,6 +172,9 @@ class Auctioneer:
         """What is said where no auction has begun; nothing where it is to be waited."""
         if self.terms.prices:
             return b"settle,%d,%b" % (number, self.terms.prices.encode())
+        if now < market.began:
+            # Where the clock was put back, it is waited as long after that at most.
+            market.began = min(market.began, clock(self.store))
         is_due = market.has_orders and now >= market.began + self.terms.every
         return b"close,%d" % number if is_due and not market.closing else b""
 
@@ -182,18 +185,24 @@ class Auctioneer:
             self.say(session, b"reopen,%d" % number)
         elif not closing.book:
             self.say(session, b"book,%d" % number)
-        elif now < self.asking(number, closing.book.id).until:
+        elif now < self.asking(number, closing.book.id, now).until:
             return False
         elif not self.hand_in(number, closing.proposers):
             self.say(session, b"clear,%d,%d" % (number, self.terms.budget))
         return True
 
-    def asking(self, number: int, book: bytes) -> Asking:
-        """What the solvers are asked of a market, who are told its book first."""
+    def asking(self, number: int, book: bytes, now: int) -> Asking:
+        """What the solvers are asked of a market, who are told its book first. Where the clock was
+        put back, they are waited for as long after that at most; else as long as they were told,
+        by whichever auctioneer."""
         if number not in self.askings or self.askings[number].book != book:
             self.tell()
-            until = self.books.until(book) or clock(self.store) + self.terms.solve
+            now = clock(self.store)
+            until = self.books.until(book) or now + self.terms.solve
             self.askings[number] = Asking(book, until, set())
+        if now < time_of(book):
+            until = min(self.askings[number].until, now + self.terms.solve)
+            self.askings[number] = self.askings[number]._replace(until=until)
         return self.askings[number]
 
     def hand_in(self, number: int, proposers: set[int]) -> bool:

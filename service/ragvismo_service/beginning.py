@@ -70,9 +70,10 @@ class Beginning:
     def run(self) -> None:
         self.follower.begin()
         while self.left:
-            many = len(self.left)
-            self.follower.wait_for(self.append())
-            if len(self.left) == many:
+            many, last = len(self.left), self.append()
+            self.follower.wait_for(last)
+            # What Redis lost is appended again.
+            if len(self.left) == many and self.follower.has(last):
                 first = next(iter(self.left.values())).line().decode()
                 raise Ended(Status.NO, f"the exchange does not take {first}")
 

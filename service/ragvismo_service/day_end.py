@@ -37,16 +37,12 @@ from ragvismo_service.verifying import PROCESSORS, verified
 from ragvismo_service.words import Words, status_of, store_of
 
 TOOLS = pathlib.Path(__file__).resolve().parents[2] / "tools"
-# carry-over ends with 1 where something is left behind.
-CARRIED = 0, 1
-OTHERS = (
-    Status.DONE,
-    Status.DIFFERS,
-    Status.OTHER_PROGRAM,
-    Status.PROGRAM_ENDED,
-    Status.HANGS,
-    Status.LAGS,
-)
+# How each line begins that carry-over says of what is left behind, and then it ends with 1, as a
+# Python that fails does.
+LEFT = "carry-over: "
+# How check-many ends where the program says no, and where it could not be asked.
+NO, NOT_ASKED = 6, 2
+OTHERS = Status.DONE, Status.DIFFERS, Status.OTHER_PROGRAM, Status.HANGS, Status.LAGS
 STATUSES = [status for status in Status if status not in OTHERS]
 
 
@@ -66,10 +62,13 @@ def said(ran: subprocess.CompletedProcess[bytes]) -> str:
 
 
 def audited(folder: pathlib.Path, program: pathlib.Path) -> str:
-    """What the program says of all replies; Ended where that is no yes."""
+    """What the program says of all replies; Ended where that is no yes, or not all are judged."""
     ran = over_replies(folder, TOOLS / "check-many", "-", "--word", "audit", "--program", program)
-    if ran.returncode:
+    if ran.returncode == NO:
         raise Ended(Status.NO, f"the audit of {folder} says no: {said(ran)}")
+    if ran.returncode:
+        status = Status.BAD_USE if ran.returncode == NOT_ASKED else Status.PROGRAM_ENDED
+        raise Ended(status, f"not all of {folder} is audited: {said(ran)}")
     return ran.stdout.decode().rstrip()
 
 
@@ -88,10 +87,11 @@ def signed(folder: pathlib.Path, last: Segment, command: list[str]) -> str:
 def carried(folder: pathlib.Path, program: pathlib.Path, rule: Rule) -> str:
     """Writes the messages of the next exchange, and tells what is left behind."""
     ran = over_replies(folder, TOOLS / "carry-over", "-")
-    if ran.returncode not in CARRIED:
+    path, left = folder / "next.messages", ran.stderr.decode()
+    is_told = all(line.startswith(LEFT) for line in left.splitlines())
+    if ran.returncode != bool(left) or not is_told:
         raise Ended(Status.NO, f"nothing can be carried over: {said(ran)}")
     given = list(messages(Owners(folder).bodies(ran.stdout.splitlines())))
-    path, left = folder / "next.messages", ran.stderr.decode()
     holds = rehearsed(given, program, rule)
     files.write(path, b"".join(message.line() + b"\n" for message in given))
     return f"{path} has {holds}; left behind: {left or 'nothing'}".rstrip()
@@ -127,7 +127,9 @@ def run() -> None:
     words.add_program()
     words.add_rule()
     given = words.parse_args()
-    end_day(given.folder, store_of(given), given)
+    # Another day's end would write to the same copy.
+    with files.lock(given.folder):
+        end_day(given.folder, store_of(given), given)
 
 
 def main() -> int:

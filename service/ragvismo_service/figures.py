@@ -42,8 +42,8 @@ class Figures:
         self.used = dict.fromkeys(LIMITS, 0)
         self.house = 0
         # The market of each live order, and how many each market has.
-        self.live: dict[int, str] = {}
-        self.live_of: collections.Counter[str] = collections.Counter()
+        self.live: dict[int, int] = {}
+        self.live_of: collections.Counter[int] = collections.Counter()
         self.sessions: set[int] = set()
         # When each market was closed that is closed, and the entry that is taken was appended, in
         # milliseconds since 1970 by the clock of Redis.
@@ -102,15 +102,15 @@ class Figures:
         return take
 
     def _place(self, reply: Reply, fields: list[str]) -> None:
-        self.used["orders"] = reply["order"]
-        self.live[reply["order"]] = fields[2]
-        self.live_of[fields[2]] += 1
+        self.used["orders"], market = reply["order"], int(fields[2].strip('"'))
+        self.live[reply["order"]] = market
+        self.live_of[market] += 1
 
     def _cancel(self, reply: Reply, _: list[str]) -> None:
         self._leave(reply["order"])
 
     def _leave(self, order: int) -> None:
-        if market := self.live.pop(order, ""):
+        if market := self.live.pop(order, 0):
             self.live_of[market] -= 1
 
     def _close(self, reply: Reply, _: list[str]) -> None:
@@ -128,8 +128,7 @@ class Figures:
 
     def _settle(self, reply: Reply, _: list[str]) -> None:
         self._open(reply, _)
-        market = str(reply["market"])
-        for order in [order for order, of in self.live.items() if of == market]:
+        for order in [order for order, of in self.live.items() if of == reply["market"]]:
             self._leave(order)
         self.house -= sum(int(payout["amount"]) for payout in reply["payouts"])
 

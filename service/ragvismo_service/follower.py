@@ -34,6 +34,8 @@ OTHERS = Status.DONE, Status.NO, Status.HELD, Status.LAGS, Status.FILE_FAULT
 STATUSES = [status for status in Status if status not in OTHERS]
 LOOKED_AT = ", ".join(map(str, sorted(NOT_AGAIN)))
 AGAIN = f"A person has to look where it ends with {LOOKED_AT}; else it is started again."
+# It takes questions when it has read in less time, in seconds, what came meanwhile.
+NEAR = 1.0
 
 
 class Answerer:
@@ -48,11 +50,14 @@ class Answerer:
     # ---- the log
 
     def begin(self) -> None:
-        """Reads the log; Ended where it is not whole."""
+        """Reads the log, until it takes little time to read what came meanwhile: more may come for
+        ever. Ended where it is not whole."""
         since = time.monotonic()
         self.history.begin()
-        while order_of(self.history.since) < order_of(last := self.last_answer()):
-            self.read_to(last)
+        before = since - NEAR
+        while (now := time.monotonic()) >= before + NEAR:
+            before = now
+            self.read_to(self.last_answer())
         count, took = self.history.count, time.monotonic() - since
         logging.info("%s answers are read, after %.1f s", count, took)
         self.taker.begin()

@@ -30,24 +30,29 @@ class History:
         self.streams = Pages(store, keys.answers, since, until), Pages(
             store, keys.taken, since, until
         )
-        # What was read and is not paired yet.
+        # What was read and is not paired yet, and how often the connection had been lost then.
         self.told: list[RawEntry] = []
         self.entries: list[RawEntry] = []
+        self.losses = store.losses
+        # From where the answers were read that are looked at.
+        self.before = since, head
 
     def begin(self) -> None:
         """Ended where entries or answers were taken out, or the answer to begin after is not
         there."""
         counts(self.store, self.keys)
-        if self.since == START_ID:
+        self._stands(self.since, self.head)
+
+    def _stands(self, since: bytes, head: bytes) -> None:
+        """Ended where the answer under an id is not there, or has another sum beside it."""
+        if since == START_ID:
             return
-        place, found = self.store.place, self.store.say(
-            b"XRANGE", self.keys.answers, self.since, self.since
-        )
+        place, found = self.store.place, self.store.say(b"XRANGE", self.keys.answers, since, since)
         if not found:
-            said = f"{place} has no answer under {self.since.decode()}"
+            said = f"{place} has no answer under {since.decode()}"
             raise Ended(Status.LOST, f"{said}: it is another exchange, or lost its end")
-        if Told.of(found[0]).head != self.head:
-            said = f"{place} has another sum under {self.since.decode()}"
+        if Told.of(found[0]).head != head:
+            said = f"{place} has another sum under {since.decode()}"
             raise Ended(Status.CHANGED, f"{said}: it is another exchange, or was changed")
 
     def pages(self) -> Iterator[list[Answered]]:
@@ -73,6 +78,8 @@ class History:
             stream for stream, left in zip(self.streams, (self.told, self.entries)) if not left
         ]
         pages = self.store.ask(lambda: [stream.command() for stream in empty])
+        if self.losses != self.store.losses:
+            return self._read_again()
         for stream, page in zip(empty, pages):
             stream.take(page)
             if stream.key == self.keys.taken:
@@ -84,9 +91,17 @@ class History:
             raise Ended(Status.FORGED, f"NO ENTRY has the id {id}, under which an answer stands")
         return bool(self.told)
 
+    def _read_again(self) -> bool:
+        """Reads what is not paired yet once more: another Redis may have taken the place of one
+        that alone had an entry, which was not answered."""
+        self.losses, self.told, self.entries = self.store.losses, [], []
+        for stream in self.streams:
+            stream.since = self.since
+        return self._read_on()
+
     def _taken(self) -> tuple[list[RawEntry], list[RawEntry]]:
         """Takes as many of the entries and the answers that were read as there are of both."""
-        many = min(len(self.entries), len(self.told))
+        self.before, many = (self.since, self.head), min(len(self.entries), len(self.told))
         taken = self.entries[:many], self.told[:many]
         del self.entries[:many], self.told[:many]
         self.since, self.count = taken[1][-1][0], self.count + many
@@ -98,12 +113,15 @@ class History:
         ]
 
     def _next(self, entry: Entry, told: Told) -> Answered:
-        """The next entry with its answer; the head follows from both, or it is Ended."""
+        """The next entry with its answer; the head follows from both, or it is Ended: the log lost
+        what was read before, or was changed."""
         if entry.id != told.id:
+            self._stands(*self.before)
             said = f"AN ANSWER STANDS under {told.id.decode()}"
             raise Ended(Status.FORGED, f"{said}, and the next entry is {entry.id.decode()}")
         self.head = head_after(self.head, entry.line(), told.answer)
         if self.head != told.head:
+            self._stands(*self.before)
             raise Ended(
                 Status.CHANGED,
                 f"THE LOG WAS CHANGED at {told.id.decode()}, or the sum beside its answer",

@@ -7,7 +7,7 @@ A call writes what was answered since the last one as segments, each of one day 
 and of --size bytes (67108864, if not given) and one entry at most. NNNNNN.messages has a line for
 each entry, ID,SESSION,NUMBER,BODY, the ID beginning with its time in milliseconds; for one that is
 no message ID!REASON,SHA256. NNNNNN.replies has what the program answered, as `audit` judges it, so
-    sed -n 's/^[0-9-]*,//p' FOLDER/*.messages | exchange serve members
+    sed -n 's/^[0-9-]*,//p' FOLDER/[0-9]*.messages | exchange serve members
 writes the bytes of all of them (LC_ALL=C; the answer to an entry that is no message follows from
 its line). FOLDER/segments has a line for each segment, with the sums of its files, the head of the
 chain, and the sum of the line before. What is not told there does not count and is written anew.
@@ -27,9 +27,11 @@ from ragvismo_service import files
 from ragvismo_service.chain import FIRST_HEAD, Answered
 from ragvismo_service.history import History
 from ragvismo_service.messages import time_of
+from ragvismo_service.places import Keys
 from ragvismo_service.segments import DAY, OpenSegment, Segment, chain_through, list_of, segments
 from ragvismo_service.statuses import BadUse, Status, table
 from ragvismo_service.store import Store
+from ragvismo_service.streams import counts
 from ragvismo_service.words import Words, status_of, store_of
 
 SIZE = 64 * 1024 * 1024
@@ -70,17 +72,17 @@ class Journal:
 
 
 def write_new(folder: pathlib.Path, store: Store, size: int) -> Segment:
-    """Writes the segments of all that was answered since the last of them, and tells the last
-    one."""
-    with files.lock(folder):
-        journal = Journal(folder, size)
-        history = History(store, journal.last.last.encode(), journal.last.head.encode())
-        history.begin()
-        for page in history.pages():
-            for answered in page:
-                journal.take(answered)
-        journal.close()
-        return journal.last
+    """Writes the segments of all that was answered since the last of them, and not what is answered
+    meanwhile, which may never end; tells the last one. Who calls it has the lock on the folder."""
+    journal, (_, told) = Journal(folder, size), counts(store, Keys.of(store.place.name))
+    since, head = journal.last.last.encode(), journal.last.head.encode()
+    history = History(store, since, head, told.last)
+    history.begin()
+    for page in history.pages():
+        for answered in page:
+            journal.take(answered)
+    journal.close()
+    return journal.last
 
 
 def verify(folder: pathlib.Path) -> str:
@@ -109,7 +111,8 @@ def run() -> None:
     if given.verify:
         print(verify(given.folder))
     else:
-        write_new(given.folder, store_of(given), given.size)
+        with files.lock(given.folder):
+            write_new(given.folder, store_of(given), given.size)
 
 
 def main() -> int:

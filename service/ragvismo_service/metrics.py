@@ -34,6 +34,7 @@ except ImportError:
 
 STATUSES = Status.BAD_USE, Status.NO_REDIS, Status.LOST, Status.CUT, Status.FORGED, Status.CHANGED
 BUCKETS = 0.001, 0.0025, 0.005, 0.01, 0.025, 0.05, 0.1, 0.25, 0.5, 1, 2.5, 5, 10, 30, 60
+MARKS = "optimal", "bounded", "wide", "budget"
 GAUGES = {
     "entries": "Entries of the log",
     "lag_entries": "Entries that are not answered",
@@ -65,6 +66,9 @@ class Metrics:
         self.replies = self.made(prometheus.Counter, "replies", "Replies, each once", ["reply"])
         self.refusals = self.made(prometheus.Counter, "refusals", "Refusals by reason", ["reason"])
         self.clears = self.made(prometheus.Counter, "clears", "Cleared batches by mark", ["mark"])
+        # What is told as 0 first has risen by one with the first clear.
+        for mark in MARKS:
+            self.clears.labels(mark)
         said = "From append to answer, of what came since this runs"
         self.seconds = self.made(prometheus.Histogram, "answer_seconds", said, buckets=BUCKETS)
         self.clear_seconds = self.made(
@@ -83,7 +87,8 @@ class Metrics:
         self.replies.labels(reply["reply"]).inc()
         if "reason" in reply:
             self.refusals.labels(reply["reason"]).inc()
-        if "mark" in reply:
+        # A line that tries has a mark, and is no clear.
+        if reply["reply"] == "cleared" and "mark" in reply:
             self.clears.labels(reply["mark"]).inc()
             if is_new:
                 self.clear_seconds.observe(since_append(answered))

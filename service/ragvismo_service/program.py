@@ -2,7 +2,9 @@
 
 from __future__ import annotations
 
+import contextlib
 import enum
+import fcntl
 import hashlib
 import itertools
 import os
@@ -66,10 +68,13 @@ class Program:
                 stdin=subprocess.PIPE,
                 stdout=subprocess.PIPE,
                 bufsize=0,
-                pipesize=PIPE,
             )
         assert self.process.stdin and self.process.stdout
         self.stdin, self.stdout = self.process.stdin, self.process.stdout
+        # Of a user who has many pipes already Linux leaves each as it is.
+        for pipe in (self.stdin, self.stdout):
+            with contextlib.suppress(PermissionError):
+                fcntl.fcntl(pipe, fcntl.F_SETPIPE_SZ, PIPE)
         os.set_blocking(self.stdin.fileno(), False)
 
     def check(self) -> None:

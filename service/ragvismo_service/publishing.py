@@ -42,7 +42,10 @@ FAULTS = {
         "ANOTHER ANSWER than this machine's stands under {id}: one machine is broken",
     ),
     b"changed": (Status.CHANGED, "THE LOG WAS CHANGED at {id}, or the sum beside its answer"),
-    b"cut": (Status.CUT, "ANSWERS WERE TAKEN OUT before that to {id}"),
+}
+MISSING = {
+    b"lost": "entry {id}, which was answered",
+    b"cut": "all answers before that to {id}",
 }
 
 
@@ -60,14 +63,15 @@ class Publisher:
         state = self.digest, b"%d" % self.count, self.last
         return [b"EVAL", SCRIPT, b"2", answers, program, taken, *state, *words]
 
-    def take(self, group: list[Answered], told: list[bytes]) -> Status:
-        """Takes what Redis said to the command: DONE, or LOST where the log has no such entry; else
-        it is Ended."""
-        if told[0] == b"lost":
-            return Status.LOST
-        if told[0] in FAULTS:
-            status, said = FAULTS[told[0]]
-            raise Ended(status, said.format(id=told[1].decode()))
+    def take(self, group: list[Answered], told: list[bytes]) -> str:
+        """Takes what Redis said to the command, and tells what is missing in the log, if anything;
+        else it is Ended."""
+        kind, id = told[0], told[1].decode()
+        if kind in FAULTS:
+            status, said = FAULTS[kind]
+            raise Ended(status, said.format(id=id))
+        if kind in MISSING:
+            return MISSING[kind].format(id=id)
         self.count += len(group)
         self.last = group[-1].entry.id
-        return Status.DONE
+        return ""

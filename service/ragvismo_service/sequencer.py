@@ -34,6 +34,9 @@ from ragvismo_service.watchdog import alive, ready
 from ragvismo_service.words import Words, status_of, store_of
 
 WAIT = b"1000"
+# It is looked whether all entries are there before what is read is answered. Redis tells the first
+# of them with that; where it is above so many bytes, it is looked just so often, in seconds.
+SHORT, OFTEN = 1 << 16, 1.0
 OTHERS = Status.DONE, Status.NO, Status.HELD, Status.LAGS, Status.FILE_FAULT
 STATUSES = [status for status in Status if status not in OTHERS]
 LOOKED_AT = ", ".join(map(str, sorted(NOT_AGAIN)))
@@ -50,11 +53,13 @@ class Sequencer:
             Publisher(self.keys, program.digest),
             PageSize(store),
         )
-        # How many entries were read, the id of the first and the whole last one; and whether more
-        # may be there already.
-        self.count, self.first = 0, START_ID
+        # How many entries were read, the id and the bytes of the first and the whole last one; and
+        # whether more may be there already.
+        self.count, self.first, self.bytes = 0, START_ID, 0
         self.last: RawEntry | None = None
         self.reads_on = True
+        # When it was looked last whether all are there, and whether it is now.
+        self.looked, self.looks = 0.0, True
 
     def claim(self) -> None:
         """The first program that comes is the exchange's."""
@@ -71,14 +76,13 @@ class Sequencer:
         self.take_told(group, told)
 
     def take_told(self, group: list[Answered], told: list[bytes]) -> None:
-        """Takes what publishing was told; where an entry was lost it may be that entries were taken
-        out."""
-        if self.publisher.take(group, told) == Status.LOST:
-            self.end_lost(group[-1].entry.id, "answered")
+        """Takes what publishing was told."""
+        if missing := self.publisher.take(group, told):
+            self.end_lost(missing)
 
-    def end_lost(self, id: bytes, done: str) -> NoReturn:
-        """An entry is not there: Redis lost the end of the log, or it was taken out, or there is
-        another log."""
+    def end_lost(self, missing: str) -> NoReturn:
+        """Entries or answers are not there: Redis lost the end of the log, or they were taken out,
+        or there is another log."""
         counts(self.store, self.keys)
         found = self.store.say(b"XRANGE", self.keys.taken, b"-", b"+", b"COUNT", b"1")
         if self.count and [id for id, _ in found] != [self.first]:
@@ -86,9 +90,7 @@ class Sequencer:
                 Status.CUT,
                 f"THE LOG WAS TAKEN AWAY: its first entry is not {self.first.decode()} any more",
             )
-        raise Ended(
-            Status.LOST, f"the log no longer has entry {id.decode()}, which was {done}: start again"
-        )
+        raise Ended(Status.LOST, f"the log no longer has {missing}: start again")
 
     def commands(self, group: list[Answered]) -> list[Command]:
         """What publishes answers, waits a second for an entry, and reads on from the last one read,
@@ -101,27 +103,33 @@ class Sequencer:
         since, taken = self.last[0] if self.last else START_ID, self.keys.taken
         publish = [self.publisher.command(group)] if group else []
         wait = [[b"XREAD", b"COUNT", b"1", b"BLOCK", WAIT, b"STREAMS", taken, since]]
+        count = [[b"XINFO", b"STREAM", taken]] if self.looks else []
         read = [b"XRANGE", taken, since, b"+", b"COUNT", b"%d" % (self.size.entries() + 1)]
-        return [*publish, *([] if self.reads_on else wait), [b"XINFO", b"STREAM", taken], read]
+        return [*publish, *([] if self.reads_on else wait), *count, read]
 
     def told(self, group: list[Answered]) -> list[Any]:
         """What Redis says to these commands; one by one where its limit for all replies might be
-        met."""
-        if self.size.entries() > 1:
-            return self.store.ask(lambda: self.commands(group), kept=True)
-        return [self.store.say(*command, kept=True) for command in self.commands(group)]
+        met, as it may have been where the connection is lost."""
+        together = self.store.ask(
+            lambda: self.commands(group)[: None if self.size.entries() > 1 else 1], kept=True
+        )
+        rest = self.commands(group)[len(together) :]
+        return together + [self.store.say(*command, kept=True) for command in rest]
 
     def read_on(self, group: list[Answered]) -> list[Entry]:
         """The entries after the last one read, when answers are published."""
-        *told, info, found = self.told(group)
+        self.looks = self.bytes <= SHORT or time.monotonic() >= self.looked + OFTEN
+        *told, found = self.told(group)
         if group:
             self.take_told(group, told[0])
         if self.last and found[:1] != [self.last]:
-            self.end_lost(self.last[0], "read")
-        Counts.of(info).whole(self.keys.taken, self.count)
+            self.end_lost(f"entry {self.last[0].decode()}, which was read")
+        if self.looks:
+            Counts.of(told[-1]).whole(self.keys.taken, self.count)
+            self.looked = time.monotonic()
         new = found[1:] if self.last else found
         if new and not self.count:
-            self.first = new[0][0]
+            self.first, self.bytes = new[0][0], sum(map(len, new[0][1]))
         self.count += len(new)
         self.reads_on = len(new) >= self.size.count
         self.size.learn(new)

@@ -27,7 +27,15 @@ from ragvismo_service.statuses import Status, table
 from ragvismo_service.store import Store
 from ragvismo_service.streams import Pages
 from ragvismo_service.watchdog import ready
-from ragvismo_service.words import Words, seconds, solver_session, status_of, store_of
+from ragvismo_service.words import (
+    PROGRAM,
+    Words,
+    runnable,
+    seconds,
+    solver_session,
+    status_of,
+    store_of,
+)
 from ragvismo_tools.solvers import Solver
 
 STATUSES = Status.BAD_USE, Status.NO_REDIS
@@ -101,9 +109,11 @@ def run() -> None:
     words.add_argument("session", type=solver_session, metavar="SESSION")
     words.add_argument("--solver", type=shlex.split, metavar="COMMAND")
     words.add_argument("--seconds", type=seconds, default=5.0, metavar="N")
-    words.add_program()
+    words.add_program(is_wanted=False)
     given = words.parse_args()
-    solver = Solver(given.solver or [str(given.program), "propose"])
+    # Who has a command of his own needs no program.
+    own = given.solver or [str(given.program or runnable(str(PROGRAM))), "propose"]
+    solver = Solver(own)
     signal.signal(signal.SIGTERM, lambda *_: sys.exit(128 + signal.SIGTERM))
     Follower(store_of(given), given.session, solver, given.seconds).run()
 

@@ -7,13 +7,15 @@ import itertools
 
 from typing import Any, NamedTuple
 
-from ragvismo_service.messages import GREATEST_ID, RawEntry
+from ragvismo_service.messages import GREATEST_ID, START_ID, RawEntry
 from ragvismo_service.places import Keys
 from ragvismo_service.statuses import Ended, Status
 from ragvismo_service.store import Command, Store
 
 # A page is to have so many bytes; of small entries it has so many.
 PAGE_BYTES, PAGE_ENTRIES = 1 << 20, 256
+# What Redis would tell of a stream that is not there.
+NO_STREAM = {b"length": 0, b"entries-added": 0, b"last-generated-id": START_ID}
 
 
 class PageSize:
@@ -57,20 +59,21 @@ class Pages:
 
 
 class Counts(NamedTuple):
-    """How many entries a stream has, and how many were ever added."""
+    """How many entries a stream has, how many were ever added, and the id of the last of these."""
 
     length: int
     added: int
+    last: bytes
 
     @staticmethod
     def of(info: list[Any] | None) -> Counts:
         """The counts that XINFO STREAM tells; None is a stream that is not there."""
-        told = dict(zip(info[::2], info[1::2])) if info else {b"length": 0, b"entries-added": 0}
+        told = dict(zip(info[::2], info[1::2])) if info else NO_STREAM
         if b"entries-added" not in told:
             raise Ended(
                 Status.NO_REDIS, "this Redis does not count what was added to a stream; 7.0 does"
             )
-        return Counts(told[b"length"], told[b"entries-added"])
+        return Counts(told[b"length"], told[b"entries-added"], told[b"last-generated-id"])
 
     def whole(self, key: bytes, least: int = 0) -> Counts:
         """The counts; Ended where entries were taken out, of all that were added or of as many as

@@ -53,11 +53,14 @@ class Seen:
     def take(self, answered: Answered, is_new: bool) -> None:
         reply = reply_of(answered.entry.id, answered.answer)
         self.last, self.head, self.count = answered.entry.id, answered.head, self.count + 1
-        self.kinds[str(reply.get("mark") or reply.get("reason") or reply["reply"])] += 1
+        # A line that tries has a mark, and is no clear.
+        is_clear = reply["reply"] == "cleared"
+        kind = reply.get("mark") if is_clear else reply.get("reason")
+        self.kinds[str(kind or reply["reply"])] += 1
         if is_new:
             waited = 1000 * since_append(answered)
             self.times["all"].append(waited)
-            if "mark" in reply:
+            if is_clear:
                 self.times["clears"].append(waited)
 
     def told_times(self) -> str:

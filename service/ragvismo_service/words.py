@@ -114,10 +114,12 @@ class Words(argparse.ArgumentParser):
     def error(self, message: str) -> NoReturn:
         raise BadUse(f"{message}; --help says more")
 
-    def add_program(self) -> None:
+    def add_program(self, is_wanted: bool = True) -> None:
+        """The program, which has to be there where it is wanted or named."""
         of_build = "the one that ./build makes, if not given"
+        default = str(PROGRAM) if is_wanted else None
         self.add_argument(
-            "--program", type=runnable, default=str(PROGRAM), metavar="FILE", help=of_build
+            "--program", type=runnable, default=default, metavar="FILE", help=of_build
         )
 
     def add_rule(self) -> None:

@@ -103,8 +103,9 @@ class Service(unittest.TestCase):
         for process in self.sequencers:
             process.kill()
             process.wait()
-            if process.stderr:
-                process.stderr.close()
+            for pipe in (process.stdout, process.stderr):
+                if pipe:
+                    pipe.close()
         self.stop_redis()
 
     def script(self, name: str, text: str) -> pathlib.Path:
@@ -255,6 +256,19 @@ class Service(unittest.TestCase):
         self.assertNotIn("Traceback", told)
         self.assertRegex(told.splitlines()[-1], "^sequencer: ")
         self.assertIn(said, told.splitlines()[-1])
+
+    def start_watch(self, *words: str) -> subprocess.Popen[str]:
+        """A watch that looks often."""
+        call = [str(HERE / "watch"), *(words or self.at), "--every", "0.1"]
+        pipe = subprocess.PIPE
+        self.sequencers.append(subprocess.Popen(call, stdout=pipe, stderr=pipe, text=True))
+        return self.sequencers[-1]
+
+    def until_told(self, watch: subprocess.Popen[str], said: str) -> None:
+        """Waits until a watch says that."""
+        assert watch.stdout
+        while said not in (line := watch.stdout.readline()):
+            self.assertTrue(line, f"it ended before it said {said}")
 
     def tool(self, name: str, *words: object, **more: Any) -> subprocess.CompletedProcess[str]:
         at = [] if "--at" in words else self.at

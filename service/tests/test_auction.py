@@ -9,19 +9,22 @@ import itertools
 import json
 import re
 import subprocess
+import sys
 import threading
 import time
+import unittest
 from fractions import Fraction
 from typing import Any
 
 import redis
 
 from ragvismo_service.auctioneer import Auctioneer, Terms
-from ragvismo_service.books import FIRST_SOLVER, Books
+from ragvismo_service.books import FIRST_SOLVER, Books, clock
+from ragvismo_service.markets import Market
 from ragvismo_service.places import Place
 from ragvismo_service.statuses import Status
 from ragvismo_service.store import Store
-from tests.standing import HERE, ORDERS, Given, Service
+from tests.standing import HERE, ORDERS, Given, Service, free_port
 
 OWN = 9
 # Proposals for the orders of a market: one that holds, one that leaves the most, and one that lies.
@@ -42,6 +45,16 @@ for line in sys.stdin:
                 "liability": "0", "orders": numbers, "surplus": "SURPLUS"}
         text = json.dumps(told, separators=(",", ":"))
         print("propose,%d,%s" % (book["market"], text), flush=True)
+"""
+# A solver's tool on a machine that has no program.
+ELSEWHERE = """
+import pathlib, sys
+sys.path[:0] = sys.argv[1:3]
+from ragvismo_service import words
+words.PROGRAM = pathlib.Path("/none")
+from ragvismo_service import solver
+sys.argv[1:] = sys.argv[3:]
+sys.exit(solver.main())
 """
 # What is said in a market, a letter for each line.
 LETTERS = {"close": "c", "book": "b", "propose": "p", "clear": "C", "reopen": "o", "settle": "s"}
@@ -265,6 +278,51 @@ class Auction(Standing):
             ran = self.tool("auctioneer", *words)
             self.assertEqual(ran.returncode, Status.BAD_USE, ran.stderr)
             self.assertIn(said, ran.stderr.splitlines()[-1])
+
+
+class Elsewhere(unittest.TestCase):
+    """A solver on a machine that has no program."""
+
+    def test_a_command_of_ones_own(self) -> None:
+        """It needs none: what is missing here is Redis."""
+        folders = str(HERE), str(HERE.parent / "tools")
+        call = [sys.executable, "-B", "-c", ELSEWHERE, *folders, str(FIRST_SOLVER)]
+        call += ["--at", str(free_port()), "--patience", "0.1"]
+        for words, status, said in (
+            (("--solver", "cat"), Status.NO_REDIS, "no Redis answers"),
+            ((), Status.BAD_USE, "there is no program /none"),
+        ):
+            ran = subprocess.run([*call, *words], capture_output=True, text=True)
+            self.assertEqual(ran.returncode, status, ran.stderr)
+            self.assertIn(said, ran.stderr.splitlines()[-1])
+
+
+class Clock(Service):
+    """The clock of Redis."""
+
+    def test_a_clock_that_is_put_back(self) -> None:
+        """By an hour: the next auction begins, and one under way goes on, as soon as always."""
+        store, hour = Store(self.place, 60, "test"), 3_600_000
+        auctioneer, now = Auctioneer(store, Terms((1,))), clock(store)
+        terms, market = auctioneer.terms, Market(now + hour, has_orders=True)
+        self.assertEqual(auctioneer.first_line(1, market, now), b"")
+        self.assertEqual(auctioneer.first_line(1, market, clock(store) + terms.every), b"close,1")
+        book = b"%d-1" % (now + hour)
+        auctioneer.books.tell(book, b"{}", now + hour)
+        self.assertEqual(auctioneer.books.until(book), now + hour)
+        for _ in range(2):
+            until = auctioneer.asking(1, book, clock(store)).until
+            self.assertLessEqual(until, clock(store) + terms.solve)
+            self.assertGreater(until, now)
+
+    def test_an_auctioneer_that_waits_longer(self) -> None:
+        """Solvers are waited for as long as one told them, though another would wait less."""
+        store = Store(self.place, 60, "test")
+        auctioneer, now = Auctioneer(store, Terms((1,))), clock(store)
+        book, until = b"%d-1" % now, now + 10 * Terms((1,)).solve
+        auctioneer.books.tell(book, b"{}", until)
+        for _ in range(2):
+            self.assertEqual(auctioneer.asking(1, book, clock(store)).until, until)
 
 
 class Flood(threading.Thread):

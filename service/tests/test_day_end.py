@@ -2,6 +2,7 @@
 
 from __future__ import annotations
 
+import contextlib
 import hashlib
 import hmac
 import json
@@ -9,12 +10,15 @@ import pathlib
 import shlex
 import shutil
 import subprocess
+from unittest import mock
 
 from client import Session
 from ragvismo_service import backups
 from ragvismo_service.chain import FIRST_HEAD
+from ragvismo_service.day_end import carried
 from ragvismo_service.figures import Figures
 from ragvismo_service.history import History
+from ragvismo_service.program import Rule
 from ragvismo_service.statuses import Ended, Status
 from ragvismo_service.store import Store
 from tests.standing import HERE, Service, free_port
@@ -71,7 +75,31 @@ class Copies(Service):
             )
 
 
+class Carried(Service):
+    """What the next exchange begins with."""
+
+    def test_a_tool_that_fails(self) -> None:
+        """It is no one that left something behind, and writes no next exchange without accounts."""
+        path, left = self.folder / "next.messages", "carry-over: the house has 5\n"
+        for status, said, is_carried in (
+            (0, "", True),
+            (1, left, True),
+            (1, "Traceback\nMemoryError\n", False),
+            (2, left, False),
+            (-9, "", False),
+        ):
+            ran = subprocess.CompletedProcess([], status, b"", said.encode())
+            path.unlink(missing_ok=True)
+            with mock.patch("ragvismo_service.day_end.over_replies", return_value=ran):
+                with contextlib.suppress(Ended):
+                    carried(self.folder, self.program, Rule.MEMBERS)
+            self.assertEqual(path.exists(), is_carried)
+
+
 class DayEnd(Service):
+    # The folder of the exchange beside those of others.
+    instance = "first"
+
     def unit(self) -> list[str]:
         """What the unit of the night calls."""
         text = (HERE / "systemd/ragvismo-day-end@.service").read_text()
@@ -79,17 +107,20 @@ class DayEnd(Service):
             line.partition("=")[2] for line in text.splitlines() if line.startswith("ExecStart=")
         ]
         return shlex.split(
-            line.replace("/opt/ragvismo", str(HERE.parent)).replace(
-                "/var/lib/ragvismo", str(self.folder)
-            )
+            line.replace("/opt/ragvismo", str(HERE.parent))
+            .replace("/var/lib/ragvismo", str(self.folder))
+            .replace("%i", self.instance)
         )
 
-    def end_day(self, *words: object) -> subprocess.CompletedProcess[str]:
+    def call(self, *words: object) -> list[str]:
         """The call of the unit, without its user."""
         given = self.unit()
         at = given.index("--at")
-        given[at : at + 4] = [*self.at, "--program", str(self.program), *map(str, words)]
-        return subprocess.run(given, capture_output=True, text=True, timeout=120)
+        given[at : at + 4] = [*self.at, "--program", str(self.program)]
+        return [*given, *map(str, words)]
+
+    def end_day(self, *words: object) -> subprocess.CompletedProcess[str]:
+        return subprocess.run(self.call(*words), capture_output=True, text=True, timeout=120)
 
     def setUp(self) -> None:
         super().setUp()
@@ -111,7 +142,7 @@ class DayEnd(Service):
         self.assertEqual((ran.returncode, ran.stderr), (0, ""))
         steps = [line.partition(":")[0] for line in ran.stdout.splitlines()]
         self.assertEqual(steps[:5], ["journal", "verify", "audit", "backup", "carry-over"])
-        carried = (self.folder / "journal/next.messages").read_text()
+        carried = (self.folder / "first/journal/next.messages").read_text()
         self.assertIn("7,1,open,1\n1,1,deposit,1,", carried)
         [copy] = (self.folder / "copies").iterdir()
         self.goes_on(copy, session.number)
@@ -124,7 +155,7 @@ class DayEnd(Service):
         ran = self.end_day("--sign", self.script("signer", SIGNER))
         self.assertEqual((ran.returncode, ran.stderr), (0, ""))
         head, signature = (
-            (self.folder / f"journal/000001.{it}").read_text() for it in ("sum", "signature")
+            (self.folder / f"first/journal/000001.{it}").read_text() for it in ("sum", "signature")
         )
         self.assertRegex(ran.stdout, r"\nsign: \S+/000001.signature is of \S+/000001.sum\nbackup")
         told = hmac.new(b"of the operator", head.encode(), hashlib.sha256).hexdigest()
@@ -183,7 +214,7 @@ class DayEnd(Service):
                 self.assertNotEqual(session.ask(line)["reply"], "refused", line)
         ran = self.end_day()
         self.assertEqual((ran.returncode, ran.stderr), (0, ""))
-        path = self.folder / "journal/next.messages"
+        path = self.folder / "first/journal/next.messages"
         self.at = ["--at", f"{self.port}/second"]
         self.start_sequencer()
         for _ in range(2):
@@ -204,6 +235,9 @@ class DayEnd(Service):
             reply = sessions[number].ask(line)
             self.assertEqual(reply.get("reason", reply.get("balance", reply["reply"])), told, line)
         self.assertEqual(self.tool("begin", path).returncode, 0)
+        self.instance = "second"
+        ran = self.end_day()
+        self.assertEqual((ran.returncode, ran.stderr), (0, ""))
         path.write_text(path.read_text().replace("12,1,open,7", "12,1,open,9"))
         self.tool_ends(Status.NO, "is another one there", "begin", path)
         path.write_text("12,1\n")
@@ -231,11 +265,24 @@ class DayEnd(Service):
             up.terminate()
         self.assertEqual(json.loads(ran.stdout)["line"], number, ran.stderr)
 
+    def test_one_at_a_time(self) -> None:
+        """Two would write to the same copy, of which one would tell that it holds."""
+        self.start_sequencer()
+        self.session(7).ask("open,1")
+        pause = f'[ "$1" = audit ] && sleep 3\nexec {self.program} "$@"\n'
+        slow = self.call("--program", self.script("slow", f"#!/bin/sh\n{pause}"))
+        with subprocess.Popen(slow, stdout=subprocess.PIPE, text=True) as first:
+            assert first.stdout
+            self.assertRegex(first.stdout.readline(), "^journal: ")
+            second = self.end_day()
+            self.assertEqual((second.returncode, second.stdout), (Status.HELD, ""), second.stderr)
+        self.assertEqual(first.returncode, 0)
+
     def test_a_journal_that_was_changed(self) -> None:
         self.start_sequencer()
         self.session(7).ask("open,1")
         self.assertEqual(self.end_day().returncode, 0)
-        (self.folder / "journal/000001.replies").write_text("{}\n")
+        (self.folder / "first/journal/000001.replies").write_text("{}\n")
         ran = self.end_day()
         self.assertEqual(
             (ran.returncode, ran.stdout, ran.stderr.count("\n")),
@@ -251,3 +298,18 @@ class DayEnd(Service):
         ran = self.end_day("--program", liar)
         self.assertEqual((ran.returncode, ran.stderr.count("\n")), (Status.NO, 1), ran.stderr)
         self.assertNotIn("backup", ran.stdout)
+
+    def test_an_audit_that_fails(self) -> None:
+        """It says neither yes nor no."""
+        self.start_sequencer()
+        self.session(7).ask("open,1")
+        self.until(self.all_answered)
+        for status, ends, said in (
+            (70, Status.PROGRAM_ENDED, "status 70, out of memory"),
+            (2, Status.BAD_USE, "does not know the word audit"),
+        ):
+            fails = self.script(f"fails-{status}", f"#!/bin/sh\ncat >/dev/null\nexit {status}\n")
+            ran = self.end_day("--program", fails)
+            self.assertEqual((ran.returncode, ran.stderr.count("\n")), (ends, 1), ran.stderr)
+            self.assertIn(said, ran.stderr)
+            self.assertNotIn("backup", ran.stdout)

@@ -10,10 +10,13 @@ import signal
 import socket
 import subprocess
 import sys
+import time
+from unittest import mock
 
 import redis
 
 from client import Broken, Session
+from ragvismo_service.program import Program, Rule
 from ragvismo_service.statuses import NOT_AGAIN, Status
 from tests.standing import HERE, STAND_IN, Service
 
@@ -152,21 +155,35 @@ class Ends(Service):
         self.until(self.all_answered)
         self.assertEqual(self.published(), self.computed())
 
+    def cut_log(self, text: bytes) -> None:
+        """Redis starts again, and its file ends where it had a text last."""
+        self.stop_redis()
+        [log] = (self.folder / "appendonlydir").glob("*.incr.aof")
+        os.truncate(log, log.read_bytes().rindex(text) + 3)
+        self.start_redis()
+
+    def test_a_user_who_has_many_pipes(self) -> None:
+        """A program runs though its pipes are not made wider."""
+        with mock.patch("fcntl.fcntl", side_effect=PermissionError):
+            program = Program(self.program, 60, Rule.MEMBERS)
+        [[answer]] = program.answers([b"7,1,open,1\n"])
+        self.assertEqual(json.loads(answer)["session"], 7)
+        program.end()
+        program.stdout.close()
+
     def lose_end(self, *more: str) -> None:
         """The log is cut in the middle of an append that was answered, as at a crash without fsync,
-        and messages are appended before the sequencer looks again."""
+        and messages are appended before the sequencer looks again. Who had read more ends."""
         sequencer = self.start_sequencer()
         self.session(7).ask("open,1")
         os.kill(sequencer.pid, signal.SIGSTOP)
         self.append(session=7, number=2, body="open,2")
         os.kill(sequencer.pid, signal.SIGCONT)
         self.until(self.all_answered)
+        watch = self.start_watch()
+        self.until_told(watch, "2 entries, 0 not answered")
         os.kill(sequencer.pid, signal.SIGSTOP)
-        self.stop_redis()
-        [log] = (self.folder / "appendonlydir").glob("*.incr.aof")
-        text = log.read_bytes()
-        os.truncate(log, text.rindex(b"open,2") + 3)
-        self.start_redis()
+        self.cut_log(b"open,2")
         self.assertEqual((self.redis.xlen("ragvismo:in"), self.redis.xlen("ragvismo:out")), (1, 1))
         for body in more:
             self.append(session=7, number=2, body=body)
@@ -175,12 +192,58 @@ class Ends(Service):
         self.start_sequencer()
         self.until(self.all_answered)
         self.assertEqual(self.published(), self.computed())
+        if more:
+            self.assertEqual(watch.wait(30), Status.LOST)
 
     def test_a_log_that_lost_its_end(self) -> None:
         self.lose_end()
 
     def test_a_log_that_lost_its_end_and_went_on(self) -> None:
         self.lose_end("open,3", "open,4")
+
+    def test_a_log_that_lost_an_answer(self) -> None:
+        """And not the message, so that nothing was taken out."""
+        sequencer = self.start_sequencer()
+        self.session(7).ask("open,1")
+        # It has been told by then that the answer stands.
+        time.sleep(1.5)
+        os.kill(sequencer.pid, signal.SIGSTOP)
+        self.cut_log(b"chain")
+        self.assertEqual((self.redis.xlen("ragvismo:in"), self.redis.xlen("ragvismo:out")), (1, 0))
+        self.append(session=7, number=2, body="open,2")
+        os.kill(sequencer.pid, signal.SIGCONT)
+        self.ends(sequencer, Status.LOST, "start again")
+        self.start_sequencer()
+        self.until(self.all_answered)
+        self.assertEqual(self.published(), self.computed())
+
+    def test_a_log_that_lost_what_was_not_answered(self) -> None:
+        """Who had read it goes on without it."""
+        sequencer, watch = self.start_sequencer(), self.start_watch()
+        self.session(7).ask("open,1")
+        self.kill(sequencer)
+        self.append(session=7, number=2, body="open,2")
+        self.until_told(watch, "2 entries, 1 not answered")
+        self.cut_log(b"open,2")
+        self.append(session=7, number=2, body="open,3")
+        self.append(session=7, number=3, body="open,4")
+        self.start_sequencer()
+        self.until_told(watch, "3 entries, 0 not answered")
+        self.assertIsNone(watch.poll())
+
+    def test_a_beginning_that_was_lost(self) -> None:
+        """What Redis lost of it is appended again."""
+        path = self.folder / "next.messages"
+        path.write_text("7,1,open,1\n1,1,deposit,1,5\n")
+        call = [str(HERE / "begin"), str(path), *self.at]
+        self.sequencers.append(subprocess.Popen(call, stderr=subprocess.PIPE, text=True))
+        begin = self.sequencers[-1]
+        self.until(lambda: any(it["cmd"] == "xread" for it in self.redis.client_list()))
+        self.cut_log(b"open,1")
+        self.append(session=8, number=1, body="open,8")
+        self.start_sequencer()
+        self.assertEqual(begin.wait(60), 0)
+        self.assertEqual([it.text for it in self.entries()][1:], path.read_bytes().splitlines())
 
     def test_a_cut_append(self) -> None:
         with socket.create_connection(("127.0.0.1", self.port)) as cut:
@@ -241,6 +304,33 @@ class Ends(Service):
         self.redis.config_set("client-output-buffer-limit", "normal 0 0 0")
         self.assertEqual(self.published(), self.computed())
 
+    def test_messages_that_are_too_long_one_after_another(self) -> None:
+        """Each is below the limit of Redis for a command, and together they are above that for
+        replies (288 MB), here both with a hundredth."""
+        for number in range(1, 301):
+            self.append(session=7, number=number, body="x")
+        for _ in range(3):
+            self.append(session=7, number=1, body=b"x" * 1_280_000)
+        self.redis.config_set("client-output-buffer-limit", "normal 2880000 0 0")
+        self.start_sequencer(None, "--patience", "5")
+        self.until(lambda: bool(self.redis.xlen("ragvismo:out") == 303), 30)
+        for _ in range(3):
+            self.append(session=7, number=1, body=b"x" * 1_280_000)
+        self.until(lambda: bool(self.redis.xlen("ragvismo:out") == 306), 30)
+        self.redis.config_set("client-output-buffer-limit", "normal 0 0 0")
+        self.assertEqual(self.published(), self.computed())
+
+    def test_a_first_message_that_is_long(self) -> None:
+        """It is not read with each message after it."""
+        self.append(session=7, number=1, body=b"x" * (1 << 20))
+        self.start_sequencer()
+        self.until(self.all_answered)
+        session, told = self.session(8), "total_net_output_bytes"
+        before = self.redis.info("stats")[told]
+        for number in range(1, 101):
+            session.ask(f"open,{number}")
+        self.assertLess(self.redis.info("stats")[told] - before, 50 << 20)
+
     def test_what_is_logged(self) -> None:
         self.append(session=7, number=1, body="open,1")
         sequencer = self.start_sequencer()
@@ -261,14 +351,22 @@ class Ends(Service):
 
     def test_statuses(self) -> None:
         """The units and the documents know the statuses."""
-        for tool in ("sequencer", "follower"):
+        # Those that run no program compare no answers.
+        others = NOT_AGAIN - {Status.DIFFERS, Status.OTHER_PROGRAM}
+        for tool, ends in (
+            ("sequencer", NOT_AGAIN),
+            ("follower", NOT_AGAIN),
+            ("auctioneer", others),
+            ("metrics", others),
+            ("gateway", others),
+        ):
             unit = (HERE / f"systemd/ragvismo-{tool}@.service").read_text()
             [told] = [
                 line.partition("=")[2]
                 for line in unit.splitlines()
                 if line.startswith("RestartPreventExitStatus")
             ]
-            self.assertEqual({int(it) for it in told.split()}, set(NOT_AGAIN))
+            self.assertEqual({int(it) for it in told.split()}, ends, tool)
         document = (HERE.parent / "docs/OPERATING.md").read_text()
         known = {
             int(number): bold for bold, number in re.findall(r"(?m)^- (\**)status (\d+)", document)

@@ -152,11 +152,14 @@ class Failover(Service):
 
     def test_what_one_redis_had_alone(self) -> None:
         """A message that is longer than what is on its way to the other is lost with the master: it
-        was not answered, and all goes on without it."""
+        was not answered, and all goes on without it, as who had read it does."""
         sequencer, old = self.start_sequencer(), self.master()
+        user = ["--at", f"redis://watch@{GROUP}", "--password", f"{self.users}/watch.password"]
+        watch = self.start_watch(*user, "--sentinel", str(self.sentinel_port))
         session = self.session(7, 1)
         session.ask("open,1")
         copy = self.append_to_one(session, b"x" * (15 << 20))
+        self.until_told(watch, "2 entries, 1 not answered")
         self.servers[old].kill()
         os.kill(copy, signal.SIGCONT)
         self.until(lambda: self.master() == self.other(old))
@@ -164,6 +167,7 @@ class Failover(Service):
         self.assertEqual(session.ask("open,2")["line"], 2)
         self.assertEqual((self.redis.xlen("ragvismo:in"), sequencer.poll()), (2, None))
         self.assertEqual(self.published(), self.computed())
+        self.until_told(watch, "2 entries, 0 not answered")
 
     def replace_master(self) -> None:
         """Kills the master; the other takes its place, and it comes again, now and then as the

@@ -11,8 +11,11 @@ import subprocess
 import sys
 import time
 import unittest
+from unittest import mock
 
+from ragvismo_service.follower import Answerer
 from ragvismo_service.processes import OF_GROUP
+from ragvismo_service.program import Program, Rule
 from ragvismo_service.questions import TRIES, Asked, Asker
 from ragvismo_service.statuses import Ended, Status
 from ragvismo_service.store import Store
@@ -90,6 +93,29 @@ class Processes(unittest.TestCase):
         while not is_gone(child):
             self.assertLess(time.monotonic(), until)
             time.sleep(0.01)
+
+
+class Busy(Service):
+    """A log to which an answer comes whenever a follower looks for the last."""
+
+    def test_beginning(self) -> None:
+        """It takes questions all the same."""
+        self.start_sequencer()
+        session, end, look = self.session(7, 1), time.monotonic() + 10, Answerer.last_answer
+
+        def last_answer(answerer: Answerer) -> bytes:
+            self.assertLess(time.monotonic(), end, "it reads for ever")
+            session.ask(f"open,{session.number}")
+            return look(answerer)
+
+        program = Program(self.program, 60, Rule.MEMBERS)
+        answerer = Answerer(Store(self.place, 60, "test"), lambda: program)
+        with mock.patch.object(Answerer, "last_answer", last_answer):
+            answerer.begin()
+        self.assertGreater(answerer.history.count, 0)
+        self.assertTrue(self.redis.xinfo_groups("ragvismo:questions"))
+        program.end()
+        program.stdout.close()
 
 
 class Following(Service):

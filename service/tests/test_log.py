@@ -141,8 +141,21 @@ class Log(Service):
         self.fill()
         self.redis.xtrim(OUT, 2, approximate=False)
         self.append(session=7, number=6, body="open,6")
-        self.ends(sequencer, Status.CUT, "ANSWERS WERE TAKEN OUT")
+        self.ends(sequencer, Status.CUT, "3 ENTRIES WERE TAKEN OUT of ragvismo:out")
         self.readers_end(Status.CUT, "TAKEN OUT of ragvismo:out")
+
+    def test_an_entry_that_is_taken_out_unread(self) -> None:
+        """Nothing is answered after it, as if it had not been there."""
+        sequencer = self.start_sequencer()
+        self.fill()
+        id = b"%d-0" % (self.redis.time()[0] * 1000 + 60_000)
+        together = self.redis.pipeline()
+        together.xadd(IN, {"session": 7, "number": 6, "body": "open,6"}, id=id)
+        together.xadd(IN, {"session": 8, "number": 1, "body": "open,8"})
+        together.xdel(IN, id)
+        together.execute()
+        self.ends(sequencer, Status.CUT, "TAKEN OUT")
+        self.assertEqual(self.redis.xlen(OUT), 5)
 
     def test_a_stream_that_is_deleted(self) -> None:
         sequencer = self.start_sequencer()

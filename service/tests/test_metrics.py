@@ -13,11 +13,17 @@ import subprocess
 import time
 import unittest
 import urllib.request
+from unittest import mock
 
-from ragvismo_service.chain import FIRST_HEAD, Answered
+from ragvismo_service import files, journal, metrics, watching
+from ragvismo_service.chain import FIRST_HEAD, Answered, head_after
 from ragvismo_service.figures import Figures
+from ragvismo_service.following import Follower
 from ragvismo_service.messages import Entry
+from ragvismo_service.places import Place
+from ragvismo_service.segments import OpenSegment
 from ragvismo_service.statuses import Ended, Status
+from ragvismo_service.store import Store
 from tests.standing import HERE, Service, free_port
 
 ORDER = '"account":1,"form":[0,1],"quantity":1,"order":'
@@ -58,7 +64,7 @@ class Counted(unittest.TestCase):
     def test_a_day(self) -> None:
         """The buyer pays 7/2, rounded up, and the seller gets 5/2, rounded down."""
         figures = self.after()
-        self.assertEqual((figures.house, figures.live), (4 - 2, {3: "4"}))
+        self.assertEqual((figures.house, figures.live), (4 - 2, {3: 4}))
         used = {
             "accounts": 1,
             "batches": 1,
@@ -76,8 +82,11 @@ class Counted(unittest.TestCase):
         self.assertEqual((figures.house, figures.used["messages"]), (2, 10))
 
     def test_a_settlement(self) -> None:
-        settled = f'{{"lapsed":1,"line":10,"market":4,"payouts":[{PAID}],"reply":"settled"}}'
-        figures = self.after(("settle,4,13", settled))
+        """The orders of a market lapse, of which one named it in quotation marks."""
+        quoted = 'buy,1,"4",call,10,5,1,1', '{"line":10,"order":5,"reply":"placed"}'
+        self.assertEqual(self.after(quoted).used["live_orders_of_a_market"], 2)
+        settled = f'{{"lapsed":2,"line":11,"market":4,"payouts":[{PAID}],"reply":"settled"}}'
+        figures = self.after(quoted, ("settle,4,13", settled))
         self.assertEqual((figures.house, figures.live), (4, {}))
         self.assertEqual(figures.used["live_orders_of_a_market"], 0)
 
@@ -102,6 +111,77 @@ class Counted(unittest.TestCase):
     importlib.util.find_spec("prometheus_client"),
     "python3-prometheus-client is missing; tools/setup installs it",
 )
+class Clears(unittest.TestCase):
+    """What is told of clears, by mark."""
+
+    def test_marks(self) -> None:
+        """Each is told before the first clear, so that a rule sees it come; a try is none."""
+        told, seen = metrics.Metrics(Store(Place(), 1, "test")), watching.Seen()
+
+        def counts() -> list[float | None]:
+            name = "ragvismo_clears_total"
+            marks = "optimal", "bounded", "wide", "budget"
+            return [told.registry.get_sample_value(name, {"mark": it}) for it in marks]
+
+        self.assertEqual(counts(), [0, 0, 0, 0])
+        tried = '{"fill":"1","line":9,"mark":"budget","market":4,"reply":"tried","surplus":"1"}'
+        for number, (body, reply) in enumerate((*DAY, ("try,4,9,buy,1,1,call,1,1", tried)), 1):
+            for take in (told.take, seen.take):
+                take(answered(number, body, reply), True)
+        self.assertEqual(counts(), [1, 0, 0, 0])
+        self.assertEqual((seen.kinds["optimal"], seen.kinds["tried"]), (1, 1))
+        self.assertEqual(len(seen.times["clears"]), 1)
+
+
+class Busy(Service):
+    """A log to which an answer comes for each that is read."""
+
+    def setUp(self) -> None:
+        super().setUp()
+        self.count, self.head, self.end = 0, FIRST_HEAD, time.monotonic() + 10
+
+    def come(self, *_: object) -> None:
+        self.assertLess(time.monotonic(), self.end, "it reads for ever")
+        self.count += 1
+        id = self.redis.xadd("ragvismo:in", {"session": 7, "number": self.count, "body": "x"})
+        answer = b'{"reply":"gate"}'
+        line = b"%b,7,%d,x" % (id, self.count)
+        self.head = head_after(self.head, line, answer)
+        self.redis.xadd("ragvismo:out", {"answer": answer, "chain": self.head}, id=id)
+
+    def test_how_it_is(self) -> None:
+        """It is told all the same, with how long the first waits that has no answer, though who
+        reads is far behind that."""
+        for _ in range(3):
+            self.come()
+        follower = Follower(Store(self.place, 60, "test"), self.come)
+        follower.begin()
+        follower.wait(0.1)
+        self.assertLess(follower.history.count, self.count)
+        state = follower.state()
+        self.assertEqual((state.entries, state.lag, state.waited), (self.count, 0, 0.0))
+        self.append(session=7, number=1, body="y")
+        time.sleep(0.2)
+        state = follower.state()
+        self.assertEqual((state.entries, state.lag), (self.count + 1, 1))
+        self.assertTrue(0.2 <= state.waited < 5)
+
+    def test_its_journal(self) -> None:
+        """It ends with what was answered when it began."""
+
+        def size(_: object) -> int:
+            self.come()
+            return 0
+
+        for _ in range(3):
+            self.come()
+        folder = self.folder / "journal"
+        files.make(folder)
+        with mock.patch.object(OpenSegment, "size", size):
+            last = journal.write_new(folder, Store(self.place, 60, "test"), 1)
+        self.assertEqual((last.entries, self.count), (3, 5))
+
+
 class Metrics(Service):
     def start_metrics(self) -> None:
         self.listen = free_port()
@@ -171,8 +251,8 @@ class Metrics(Service):
         self.assertEqual(self.sequencers[-1].wait(120), Status.CUT)
 
     def rules_are_of(self, told: dict[str, float]) -> None:
-        """Each figure of the rules is told, or is one of a clear, of which there is none yet."""
-        names = {name.partition("{")[0] for name in told} | {"ragvismo_clears_total"}
+        """Each figure of the rules is told."""
+        names = {name.partition("{")[0] for name in told}
         rules = (HERE / "alerts.yml").read_text()
         self.assertEqual(set(re.findall(r"ragvismo_\w+", rules)) - names, set())
         if shutil.which("promtool"):

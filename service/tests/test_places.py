@@ -184,7 +184,14 @@ class Users(Service):
                 ("CLIENT", "KILL", "TYPE", "normal"),
                 ("CONFIG", "GET", "*"),
             ),
-            "operator": (add_in, add_out, script, ("GET", "ragvismo:program")),
+            "operator": (
+                add_in,
+                add_out,
+                script,
+                ("GET", "ragvismo:program"),
+                ("DEL", "ragvismo:in"),
+                ("SET", "ragvismo:out", "1"),
+            ),
             "gateway": (
                 add_out,
                 ("XTRIM", "ragvismo:in", "MAXLEN", "0"),
@@ -228,6 +235,14 @@ class Users(Service):
                 ):
                     connected.execute_command(*command)
         self.assertEqual(len(self.redis.xrange("ragvismo:in")), 1)
+
+    def test_what_a_person_does(self) -> None:
+        """What OPERATING says to do by hand is the operator's."""
+        operator = self.of("operator")
+        self.of("sequencer").xadd("ragvismo:out", {"answer": "{}"})
+        self.assertEqual(operator.delete("ragvismo:out"), 1)
+        for words in ("REPLICAOF NO ONE", "ACL LOAD"):
+            self.assertTrue(operator.execute_command(*words.split()))
 
     def test_an_auction(self) -> None:
         """The auctioneer and a solver do as these users what they must."""

@@ -5,6 +5,7 @@ from __future__ import annotations
 import json
 import os
 import pathlib
+import re
 import shlex
 import signal
 import subprocess
@@ -53,10 +54,12 @@ class Tools(Service):
         self.tool_ends(Status.FILE_FAULT, "/dev/null", "journal", "/dev/null/journal")
 
     def run_again(self, folder: pathlib.Path) -> None:
-        """What the journal keeps of the messages, given to the program, writes what it keeps of the
-        replies."""
+        """What the journal keeps of the messages, given to the program as its help says, writes
+        what it keeps of the replies; not what a day's end wrote there for the next exchange."""
+        (folder / "next.messages").write_text("7,1,open,1\n")
+        [told] = re.findall("(?m)^ +(sed .*) [|]", self.tool("journal", "--help").stdout)
         program = shlex.quote(str(self.program))
-        given = f"sed -n 's/^[0-9-]*,//p' {folder}/*.messages | {program} serve members"
+        given = told.replace("FOLDER", str(folder)) + f" | {program} serve members"
         ran = subprocess.run(
             given, shell=True, env={**os.environ, "LC_ALL": "C"}, capture_output=True
         )

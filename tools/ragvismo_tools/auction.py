@@ -40,8 +40,8 @@ class Exchange:
         self.given, self.told = ends_of(self.process)
 
     def ask(self, line: bytes) -> bytes:
-        """The reply to a line, with its LF, which is printed too; nothing to an empty line, or
-        where the exchange has gone."""
+        """The reply to a line, with its LF, which is printed too; nothing to an empty line, before
+        whose end a CR may stand, or where the exchange has gone."""
         if self.log:
             self.log.write(line + b"\n")
             self.log.flush()
@@ -50,7 +50,7 @@ class Exchange:
             self.given.flush()
         except BrokenPipeError:
             return b""
-        reply = self.told.readline() if line else b""
+        reply = self.told.readline() if line.removesuffix(b"\r") else b""
         sys.stdout.buffer.write(reply)
         sys.stdout.buffer.flush()
         return reply
@@ -80,12 +80,12 @@ def serve(given: argparse.Namespace) -> int:
     exchange = Exchange(given.program, given.log)
     try:
         for number, line in enumerate(sys.stdin.buffer):
-            text = line.removesuffix(b"\n").removesuffix(b"\r")
+            text = line.removesuffix(b"\n")
             text = text if number else text.removeprefix(MARK)
             clear = CLEAR.match(text)
             if clear:
                 propose(exchange, solvers, clear[1], given.seconds)
-            if not exchange.ask(text) and text:
+            if not exchange.ask(text) and text.removesuffix(b"\r"):
                 break
     finally:
         for solver in solvers:
@@ -110,6 +110,8 @@ def main() -> int:
     words.add_argument("--program", type=pathlib.Path, default=PROGRAM, metavar="FILE")
     given = words.parse_args()
     given.program = given.program.absolute()
+    if not given.seconds > 0:
+        raise BadUse("--seconds is a number above 0")
     if not os.access(given.program, os.X_OK):
         raise BadUse(f"there is no program {given.program}, which ./build makes")
     return serve(given)

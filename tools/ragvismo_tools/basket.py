@@ -15,7 +15,8 @@ from ragvismo_tools.batches import batch, opened
 
 
 def within(word: str, most: int) -> bool:
-    return word.isascii() and word.isdigit() and 1 <= int(word) <= most
+    is_short = len(word) <= len(str(most))
+    return is_short and word.isascii() and word.isdigit() and 1 <= int(word) <= most
 
 
 def main() -> int:

@@ -53,7 +53,8 @@ def commands(seed: int, count: int) -> Iterator[str]:
 
 def number(text: str, least: int, greatest: int) -> int | None:
     """The number of a text, or None where it is none of the range."""
-    plain = text.isascii() and text.isdigit() and str(int(text)) == text
+    is_short = len(text) <= len(str(greatest))
+    plain = is_short and text.isascii() and text.isdigit() and str(int(text)) == text
     return int(text) if plain and least <= int(text) <= greatest else None
 
 

@@ -5,8 +5,9 @@
 A line counts where it is not empty. Tests are the sources that a crate declares under #[cfg(test)],
 with all below them, and the root of a crate that has no other; all other sources are code. Then
 come the longest functions (over 40 lines from `fn` to the end, clauses not counted), files over 800
-lines, and functions with more than five parameters, at most N of each (10), and last one line with
-the sums. FOLDER is a checkout, this one where none is named.
+lines, functions with more than five parameters, and definitions and lemmas that nothing uses, at
+most N of each (10), and last one line with the sums. FOLDER is a checkout, this one where none is
+named.
 """
 from __future__ import annotations
 
@@ -17,6 +18,7 @@ from typing import NamedTuple
 
 from ragvismo_tools.ending import ended, words_of
 from ragvismo_tools.places import TOP
+from ragvismo_tools.unused import unused
 
 KINDS = ("code", "tests", "specs", "proofs")
 LONG_FUNCTION, LONG_FILE, MANY_PARAMETERS = 40, 800, 5
@@ -125,6 +127,7 @@ def house(top: pathlib.Path, most: int) -> Iterator[str]:
         (it for it in found if it.parameters > MANY_PARAMETERS), key=lambda it: -it.parameters
     )
     large = sorted((it for it in files if it[0] > LONG_FILE), reverse=True)
+    idle = unused(top / "crates")
     for title, listed in (
         (f"functions over {LONG_FUNCTION} lines", [f"{it.lines} {it.place}" for it in long]),
         (f"files over {LONG_FILE} lines", [f"{lines} {name}" for lines, name in large]),
@@ -132,12 +135,13 @@ def house(top: pathlib.Path, most: int) -> Iterator[str]:
             f"functions with more than {MANY_PARAMETERS} parameters",
             [f"{it.parameters} {it.place}" for it in many],
         ),
+        ("definitions and lemmas that nothing uses", idle),
     ):
         yield "\n".join([f"\n{title}: {len(listed)}", *(f"  {it}" for it in listed[:most])])
     told = ", ".join(f"{kind} {number}" for kind, number in sums.items())
     yield (
         f"\nsum: crates {len(rows)}, {told}, long functions {len(long)}, long files {len(large)},"
-        f" many parameters {len(many)}"
+        f" many parameters {len(many)}, unused {len(idle)}"
     )
 
 

@@ -41,6 +41,12 @@ def demand(holds: object, reason: str) -> None:
         raise Fault(reason)
 
 
+def size(digits: str) -> int:
+    """The size of a number text; of a long one, some size above every limit: Python reads no number
+    of some thousand digits."""
+    return abs(int(digits[:42]))
+
+
 # Kinds of values. Each walks over one value three times: its shape, the grammar of its texts, its
 # ranges.
 
@@ -70,12 +76,12 @@ class Text:
 
     def grammar(self, value: Any) -> None:
         demand((FRACTION if self.fraction else WHOLE).fullmatch(value), "Number")
-        parts = [abs(int(part)) for part in value.split("/")]
+        parts = [size(part) for part in value.split("/")]
         if len(parts) == 2 and max(parts) <= LIMIT:
             demand(math.gcd(*parts) == 1, "Number")
 
     def ranges(self, value: Any) -> None:
-        demand(all(abs(int(part)) <= self.size for part in value.split("/")), "Range")
+        demand(all(size(part) <= self.size for part in value.split("/")), "Range")
         demand(self.least is None or Fraction(value) >= self.least, "Range")
 
 

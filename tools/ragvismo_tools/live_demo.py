@@ -75,8 +75,8 @@ def pass_on(trader: str, pipe: pathlib.Path, asked: queue.Queue[tuple[str, bytes
     """Passes on what comes through a trader's pipe line by line, and an empty line at its end."""
     with open(pipe, "rb") as lines:
         for line in lines:
-            text = line.removesuffix(b"\n").removesuffix(b"\r")
-            if text.removeprefix(MARK):
+            text = line.removesuffix(b"\n")
+            if text.removesuffix(b"\r").removeprefix(MARK):
                 asked.put((trader, text))
     asked.put((trader, b""))
 
@@ -108,7 +108,8 @@ def serve(folder: pathlib.Path, given: argparse.Namespace) -> int:
             here.remove(trader)
             continue
         reply = exchange.ask(line)
-        print(f"{trader}> {line.decode(errors='replace')}\n     {reply}", flush=True)
+        typed = line.removesuffix(b"\r").decode(errors="replace")
+        print(f"{trader}> {typed}\n     {reply}", flush=True)
         if not reply:
             break
         may_type.release()

@@ -56,10 +56,10 @@ def main() -> None:
         raise BadUse("python3-matplotlib is missing; tools/setup installs it") from None
     logging.getLogger("matplotlib").setLevel(logging.ERROR)
     matplotlib.use("Agg")
+    batch = journals.read_batch(str(given.journal), given.batch)
     out = given.out or place_for(given.journal)
     if out.resolve() == given.journal.resolve():
         raise BadUse(f"the picture would overwrite {out}")
-    batch = journals.read_batch(str(given.journal), given.batch)
     limits = (given.limits[0], given.limits[1]) if given.limits else None
     try:
         pictures.save(batch, out, given.size, title=given.title, limits=limits)

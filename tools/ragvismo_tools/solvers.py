@@ -14,6 +14,8 @@ import time
 from ragvismo_tools.piping import ends_of, piped
 
 MOST_BYTES = 16_777_216
+# So many seconds it is waited for at once, since the system waits for no number of them.
+HOUR = 3_600
 
 
 def has_ended(process: subprocess.Popen[bytes]) -> bool:
@@ -54,7 +56,8 @@ class Solver:
     def turn(self, left: bytes, until: float) -> bytes:
         """Gives it what is left of a book and takes what it answers, whichever goes first; what is
         still left."""
-        to, rest = [self.given] if left else [], max(0, until - time.monotonic())
+        to = [self.given] if left else []
+        rest = max(0, min(until - time.monotonic(), HOUR))
         may_read, may_write, _ = select.select([self.told], to, [], rest)
         if may_write:
             left = left[os.write(self.given.fileno(), left[:65536]) :]

@@ -4,12 +4,12 @@
     tools/table JOURNAL --certificate BATCH
 
 JOURNAL, or standard input where it is a minus, is the whole of what `exchange run` wrote, or
-quotes, guarded or sessions. Orders are those of the batches, and by their numbers those that were
-in none; fills are the orders that are filled, with the premium that the account gains in whole
+quotes, guarded, sessions or serve. Orders are those of the batches, and by their numbers those that
+were in none; fills are the orders that are filled, with the premium that the account gains in whole
 ticks; balances are the last ones that follow from the lines. A certificate is computed in exact
-fractions from the line of the batch alone: what is owed and due where it counts, and the measure.
-Where a sum is not as it should be, the words say "which fails" and the status is 1. Bad use has one
-line and status 2.
+fractions from the line of the batch alone: what is owed and due where it counts, and the measure;
+of a cover by cells how many nodes it has, and the first that fails. Where a sum is not as it should
+be, the words say "which fails" and the status is 1. Bad use has one line and status 2.
 """
 from __future__ import annotations
 
@@ -20,9 +20,9 @@ from fractions import Fraction
 from typing import Any, NamedTuple
 
 from ragvismo_tools.ending import BadUse, ended, words_of
-from ragvismo import journals
+from ragvismo import cells, journals
 from ragvismo.cleared import Cleared
-from ragvismo.faults import BadJournal
+from ragvismo.faults import BadJournal, Unproved
 from ragvismo.orders import Option
 
 Rows = list[list[object]]
@@ -226,8 +226,12 @@ class Telling:
             is_left,
         )
         if it.bound is not None:
-            tells = {"line": self.tell_line, "match": self.tell_balance}
-            tells.get(str(it.certificate.cover), self.tell_tree)()
+            cover = it.certificate.cover
+            if isinstance(cover, dict):
+                self.tell_cells(cover["cells"])
+            else:
+                tells = {"line": self.tell_line, "match": self.tell_balance}
+                tells.get(str(cover), self.tell_tree)()
             self.tell_measure()
         else:
             self.tell_balance()
@@ -278,9 +282,7 @@ class Telling:
             start = "  " * depth + where
             if "split" in node:
                 place = node["split"]
-                sound = (
-                    place <= len(self.legs) and self.legs[place - 1].is_owed and place not in signs
-                )
+                sound = self.is_leg(place) and self.legs[place - 1].is_owed and place not in signs
                 self.say(f"{start}split at {self.legs[place - 1].name()}", sound)
                 open_sides.append((depth + 1, {**signs, place: False}, "where it pays nothing: "))
                 open_sides.append((depth + 1, {**signs, place: True}, "where it pays: "))
@@ -289,13 +291,16 @@ class Telling:
         if open_sides:
             self.say(f"{len(open_sides)} sides of splits are missing", False)
 
+    def is_leg(self, place: int) -> bool:
+        return 1 <= place <= len(self.legs)
+
     def tell_leaf(
         self, start: str, signs: dict[int, bool], multipliers: list[dict[str, Any]]
     ) -> None:
         factors = {each["at"]: Fraction(each["by"]) for each in multipliers}
         sums = [Fraction(0)] * (self.batch.underlyings + 1)
         sound = list(factors) == sorted(factors) and len(factors) == len(multipliers)
-        sound = sound and all(at <= len(self.legs) for at in factors)
+        sound = sound and all(map(self.is_leg, factors))
         for leg in self.legs:
             factor, sign = factors.get(leg.place, Fraction(0)), signs.get(leg.place)
             within = (factor == 0 or sign is not None) if leg.is_owed else factor <= leg.held
@@ -308,7 +313,7 @@ class Telling:
         used = ", ".join(
             f"{by} times {self.legs[at - 1].name()}"
             for at, by in factors.items()
-            if at <= len(self.legs)
+            if self.is_leg(at)
         )
         rest = ", ".join(map(str, sums[1:]))
         most = (
@@ -318,6 +323,18 @@ class Telling:
         self.say(
             said, sound and sums[0] <= self.batch.liability and all(each <= 0 for each in sums[1:])
         )
+
+    def tell_cells(self, nodes: list[cells.Node]) -> None:
+        """A tree over classes, which may have many thousand nodes."""
+        owed = [(it.option.form, it.held if it.is_owed else -it.held) for it in self.legs]
+        told, is_sound = "each leaf by at most the liability, and at most 0 for each price", True
+        try:
+            cells.check_shape(nodes, len(cells.classes_of(form for form, _ in owed)))
+            cells.check_cells(nodes, owed, self.batch.liability, self.batch.underlyings + 1)
+        except Unproved as fault:
+            told, is_sound = fault.why, False
+        about = f"a tree of {many(len(nodes), 'node')} over classes of options"
+        self.say(f"{about} bounds what is owed less what is due: {told}", is_sound)
 
     def tell_measure(self) -> None:
         certificate = self.batch.certificate
@@ -333,7 +350,8 @@ class Telling:
                 if it.is_ray
                 else f"mass {it.mass} at the price {shape}"
             )
-            self.say(where, it.weight >= 0 and len(it.prices) == self.batch.underlyings)
+            is_sound = it.weight >= 0 and min(it.entries) >= 0 and any(it.entries)
+            self.say(where, is_sound and len(it.prices) == self.batch.underlyings)
         mass = sum((it.mass for it in certificate.measure), Fraction(0))
         self.say(f"the masses sum to {mass}, and they should to 1", mass == 1)
         bound = Fraction(0)

@@ -7,7 +7,8 @@ def is_tracked(path: pathlib.Path) -> bool:
     file = path.resolve()
     if not file.is_file():
         return False
-    asked = subprocess.run(
-        ["git", "ls-files", "--error-unmatch", file.name], cwd=file.parent, capture_output=True
-    )
-    return asked.returncode == 0
+    command = ["git", "ls-files", "--error-unmatch", file.name]
+    try:
+        return subprocess.run(command, cwd=file.parent, capture_output=True).returncode == 0
+    except FileNotFoundError:  # where there is no git it tracks nothing
+        return False

@@ -1,6 +1,6 @@
 // Accounts: balances, positions and history; the batches; and what the operator does.
 import {bundleWords} from "./words.mjs";
-import {element, tableElement} from "./tables.mjs";
+import {element, renew, tableElement} from "./tables.mjs";
 import {lineForm, numberInput} from "./forms.mjs";
 import {positionOf} from "./stakes.mjs";
 import {refusalWords} from "./refusal_words.mjs";
@@ -47,14 +47,15 @@ export class AccountView {
                 bundleWords(positionOf(each)), `${each.fill}`]);
         const history = state.history.map(each =>
             [`${each.at}`, each.line.slice(0, 200), replyWords(each.reply)]);
-        this.balances.replaceChildren(tableElement({caption: "Accounts, in ticks",
+        renew(this.balances, tableElement({caption: "Accounts, in ticks",
             head: ["account", "balance", "reserved for buys", "need", "secured"],
             rows: balances}));
-        this.positions.replaceChildren(positions.length === 0
-            ? element("p", {}, `In market ${state.market} you hold nothing.`)
+        const none = state.isOwnKnown
+            ? `In market ${state.market} you hold nothing.` : "Positions are asked for …";
+        renew(this.positions, positions.length === 0 ? element("p", {}, none)
             : tableElement({caption: `Positions in market ${state.market}`,
                 head: ["account", "batch", "order", "side", "bundle", "fill"], rows: positions}));
-        this.history.replaceChildren(tableElement({caption: "My last lines, the newest first",
+        renew(this.history, tableElement({caption: "My last lines, the newest first",
             head: ["place", "line", "reply"], rows: history}));
     }
 }
@@ -73,7 +74,7 @@ export class BatchesView {
             element("a", {href: `batch.html#${each.batch}`}, `Recheck batch ${each.batch}`),
             `${each.market}`, `${each.mark}`, `${each.surplus}`, `${each.bound || ""}`,
             `${each.filled} of ${each.orders}`]);
-        this.list.replaceChildren(tableElement({caption: "Cleared batches, the newest first",
+        renew(this.list, tableElement({caption: "Cleared batches, the newest first",
             head: ["batch", "market", "mark", "surplus", "bound", "orders filled"], rows}));
     }
 }
@@ -101,13 +102,13 @@ export class OperatorView {
     show(state) {
         const rows = state.members.map(each =>
             [each.name, each.role, element("span", {}, each.accounts.join(", "))]);
-        this.members.replaceChildren(tableElement({caption: "Members",
+        renew(this.members, tableElement({caption: "Members",
             head: ["name", "role", "accounts"], rows}));
         const {entries, proposals, waiting} = state.service;
         this.lag.textContent = `Messages: ${entries}. Of these ${waiting} wait for an answer.`;
         const proposed = proposals.map((/** @type {Told} */ each) => [`${each.session}`,
             `${each.market}`, `${each.surplus}`, `${each.bound}`, `${each.at}`]);
-        this.solvers.replaceChildren(proposed.length === 0
+        renew(this.solvers, proposed.length === 0
             ? element("p", {}, "No solver has proposed anything.")
             : tableElement({caption: "What each solver proposed last",
                 head: ["session", "market", "surplus", "bound", "place"], rows: proposed}));

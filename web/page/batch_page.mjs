@@ -129,7 +129,8 @@ function recheck() {
         worker.addEventListener("message", event => conclude(event.data));
         worker.addEventListener("error", event => {
             forget();
-            verdict.textContent = `The recheck broke off, which is no yes: ${event.message}`;
+            const why = event.message || "it could not begin";
+            verdict.textContent = `The recheck broke off, which is no yes: ${why}`;
         });
         worker.postMessage(entry.text);
     }
@@ -172,13 +173,32 @@ part("example", HTMLButtonElement).addEventListener("click", async () => {
     lines.value = await (await fetch("example.replies")).text();
     read(new TextEncoder().encode(lines.value));
 });
+/** The line of a batch of a gateway's exchange, or why there is none.
+ * @param {string} number */
+async function askNamed(number) {
+    try {
+        const answer = await fetch(`batches/${number}`);
+        const text = await answer.text();
+        const why = answer.status === 401
+            ? "log in first" : `the answer has status ${answer.status}`;
+        return answer.ok ? {text, why: ""} : {text: "", why};
+    } catch (fault) {
+        return {text: "", why: "nobody answers"};
+    }
+}
+
 /** Behind a gateway the page's place names a batch of its exchange. */
 async function openNamed() {
-    const number = location.hash.slice(1);
-    if (/^[1-9][0-9]*$/.test(number)) {
-        const answer = await fetch(`batches/${number}`);
-        lines.value = await answer.text();
-        read(new TextEncoder().encode(lines.value));
+    const named = location.hash;
+    if (/^#[1-9][0-9]*$/.test(named)) {
+        const {text, why} = await askNamed(named.slice(1));
+        // Meanwhile it may name another one.
+        if (location.hash === named) {
+            lines.value = text;
+            read(new TextEncoder().encode(text));
+            told.textContent = why === "" ? told.textContent
+                : `Batch ${named.slice(1)} is not read: ${why}.`;
+        }
     }
 }
 

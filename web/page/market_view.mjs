@@ -2,7 +2,7 @@
 import {bundleWords} from "./words.mjs";
 import {button, choice, field, setOptions} from "./forms.mjs";
 import {ProbeView} from "./probe_view.mjs";
-import {element, tableElement} from "./tables.mjs";
+import {element, renew, tableElement} from "./tables.mjs";
 import {orderOf, positionOf} from "./stakes.mjs";
 import {WorthPicture} from "./worth_picture.mjs";
 
@@ -58,7 +58,6 @@ export class MarketView {
         this.state = null;
         setInterval(() => this.tick(), 1000);
         this.book = element("div", {id: "book"});
-        this.shown = "";
         this.picture = new WorthPicture("What I hold and ordered is worth");
         this.probe = new ProbeView();
         const stakes = element("div", {}, element("h3", {}, "What I hold and ordered"),
@@ -81,37 +80,32 @@ export class MarketView {
         this.state = state;
         this.tick();
         this.showBook(state);
-        const own = state.orders.filter(order => state.accounts.includes(order.account));
-        this.picture.show([
-            {told: "held now", kind: "held", stakes: state.positions.map(positionOf)},
-            {told: "with my orders, all filled", kind: "ordered",
-                stakes: [...state.positions.map(positionOf), ...own.map(orderOf)]},
-        ], state.count());
+        this.showStakes(state);
         this.probe.show(state);
     }
 
-    /** The book stays where nothing in it is new, and so does the button that has the focus.
-     * @param {TradingState} state */
-    showBook(state) {
-        const shown = JSON.stringify([state.orders, state.accounts, state.phase(), state.isKnown]);
-        if (shown === this.shown) {
-            return;
+    /** @param {TradingState} state */
+    showStakes(state) {
+        this.picture.place.hidden = !state.isOwnKnown;
+        if (state.isOwnKnown) {
+            const own = state.orders.filter(order => state.accounts.includes(order.account));
+            const held = state.positions.map(positionOf);
+            this.picture.show([
+                {told: "held now", kind: "held", stakes: held},
+                {told: "with my orders, all filled", kind: "ordered",
+                    stakes: [...held, ...own.map(orderOf)]},
+            ], state.count());
         }
-        this.shown = shown;
-        const focused = this.book.contains(document.activeElement)
-            ? document.activeElement?.getAttribute("aria-label") : null;
-        this.drawBook(state);
-        Array.from(this.book.querySelectorAll("button"))
-            .find(each => each.getAttribute("aria-label") === focused)?.focus();
     }
 
     /** @param {TradingState} state */
-    drawBook(state) {
-        if (state.orders.length === 0) {
-            this.book.replaceChildren(element("p", {},
-                state.isKnown ? "There are none." : "They are asked for …"));
-            return;
-        }
+    showBook(state) {
+        renew(this.book, state.orders.length > 0 ? this.bookOf(state)
+            : element("p", {}, state.isKnown ? "There are none." : "They are asked for …"));
+    }
+
+    /** @param {TradingState} state */
+    bookOf(state) {
         const isOpen = state.phase() === "open";
         const rows = state.orders.map(order => {
             const isOwn = state.accounts.includes(order.account);
@@ -127,6 +121,6 @@ export class MarketView {
             head: ["order", "side", "bundle", "limit", "quantity", "account", ""], rows});
         table.querySelectorAll("tbody tr").forEach((row, at) =>
             row.classList.toggle("own", state.accounts.includes(state.orders[at].account)));
-        this.book.replaceChildren(table);
+        return table;
     }
 }

@@ -1,6 +1,6 @@
 // What the market bids and asks for an option whose strike is dragged, and how deep it is.
 import {choice, field, numberInput} from "./forms.mjs";
-import {element, foldedTable} from "./tables.mjs";
+import {element, foldedTable, renew, say} from "./tables.mjs";
 import {AskedLast} from "./asked_last.mjs";
 import {drawDepth} from "./depth_picture.mjs";
 import {refusalWords} from "./refusal_words.mjs";
@@ -116,7 +116,7 @@ export class ProbeView {
             this.slider.value = this.strike.value;
         }
         this.says.textContent = "";
-        this.depth.replaceChildren();
+        renew(this.depth);
     }
 
     /** The option as it stands in a line; nothing where it is none. */
@@ -129,7 +129,7 @@ export class ProbeView {
     ask() {
         const option = this.option();
         if (option === "") {
-            this.says.textContent = "Each field is a whole number.";
+            say(this.says, "Each field is a whole number.");
         } else if (this.at >= 0) {
             this.priced.want([`price/${this.market}/1/${option}`], this.at);
         }
@@ -137,12 +137,15 @@ export class ProbeView {
 
     /** @param {Told} reply */
     tell(reply) {
+        if (this.option() === "") {
+            return;
+        }
         const isPriced = reply.reply === "priced";
-        this.says.textContent = isPriced ? pricedWords(reply)
-            : reply.reply === "refused" ? `It is ${refusalWords(reply)}.` : reply.told;
+        say(this.says, isPriced ? pricedWords(reply)
+            : reply.reply === "refused" ? `It is ${refusalWords(reply)}.` : reply.told);
         this.limits = isPriced ? limitsOf(reply) : [];
         if (this.limits.length === 0) {
-            this.depth.replaceChildren();
+            renew(this.depth);
             return;
         }
         this.tried.want(this.limits.map(({side, price}) =>
@@ -155,13 +158,13 @@ export class ProbeView {
         const rows = this.limits.map((limit, at) => ({...limit, fill: replies[at].fill}))
             .filter(row => row.fill !== undefined);
         if (rows.length === 0) {
-            this.depth.replaceChildren();
+            renew(this.depth);
             return;
         }
         const width = Math.max(280, Math.min(this.place.clientWidth || 560, 620));
         const table = tableOf(`What would be filled of ${MANY} options`, ["side", "limit", "fill"],
             rows.map(({side, price, fill}) => [side, `${price}`, fill]));
-        this.depth.replaceChildren(
+        renew(this.depth,
             element("p", {}, `So much of an order for ${MANY} would be filled by a clear now:`),
             drawDepth(rows, width), foldedTable(table));
     }

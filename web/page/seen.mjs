@@ -1,6 +1,6 @@
 // A batch as numbers that a picture needs: rounded, and so for drawing alone. What is told in words
 // and tables is summed exactly.
-import {Sums, isBelowZero, whole} from "./fractions.mjs";
+import {Sums, isBelowZero, sizeOf, whole} from "./fractions.mjs";
 import {net, premium} from "./batch.mjs";
 
 /** @typedef {import("./batch.mjs").Batch} Batch */
@@ -14,8 +14,13 @@ const FREE = new Sums(null);
 // No market is settled at a greater price.
 const FARTHEST = 1e9;
 
+// No double holds parts that are as great as this; so many of a whole one are told of these then.
+const GREAT = 2n ** 1000n;
+const PARTS = 2n ** 64n;
+
 /** @param {Fraction} value */
-export const near = value => Number(value.over) / Number(value.under);
+export const near = ({over, under}) => sizeOf(over) < GREAT && under < GREAT
+    ? Number(over) / Number(under) : Number(over * PARTS / under) / Number(PARTS);
 
 /** What the house keeps at a settlement: the premium less the net, times t.
  * @param {Batch} batch @param {State} state */

@@ -1,17 +1,21 @@
 // What somebody has at stake: positions that are held, and orders as if they were filled whole.
-import {Sums, ZERO, fractionOf, part, whole} from "./fractions.mjs";
+import {Sums, ZERO, fractionOf, negative, part, whole} from "./fractions.mjs";
+import {payoff, signed} from "./batch.mjs";
 import {bendsOn} from "./batch_tables.mjs";
 import {near} from "./seen.mjs";
-import {pays, signed} from "./batch.mjs";
 import {tableOf} from "./steps.mjs";
 import {underlying} from "./words.mjs";
 
+/** @typedef {import("./batch.mjs").Form} Form */
 /** @typedef {import("./batch.mjs").Leg} Leg */
 /** @typedef {import("./batch.mjs").Order} Order */
 /** @typedef {import("./batch.mjs").State} State */
+/** @typedef {import("./fractions.mjs").Fraction} Fraction */
 /** @typedef {import("./gateway.mjs").Told} Told */
 /** @typedef {{told: string, kind: string, stakes: Order[]}} Heap
  * stakes that are summed to one curve; the price of an order is what is paid for it */
+/** @typedef {{paid: Fraction, options: {form: Form, count: Fraction}[]}} Held
+ * what is paid in all, and how many are held of each option, below 0 where they are owed */
 
 const FREE = new Sums(null);
 
@@ -44,16 +48,36 @@ export const positionOf = position => ({
     legs: legsOf(position.legs),
 });
 
-/** What stakes are worth at a settlement, less what is paid for them.
- * @param {Order[]} stakes @param {State} state */
-export function worth(stakes, state) {
-    let sum = ZERO;
+/** The options that stakes come to; of many stakes these are far fewer.
+ * @param {Order[]} stakes
+ * @returns {Held} */
+export function heldOf(stakes) {
+    /** @type {Held["options"]} */
+    const options = [];
+    /** @type {Map<string, number>} */
+    const places = new Map();
+    let paid = ZERO;
     for (const stake of stakes) {
-        const value = FREE.times(pays(FREE, stake, state), part(state[0]));
-        const gained = FREE.times(stake.quantity, FREE.less(value, stake.price));
-        sum = FREE.add(sum, signed(stake, gained));
+        paid = FREE.add(paid, signed(stake, FREE.times(stake.quantity, stake.price)));
+        for (const {count, form} of stake.legs) {
+            const known = places.get(`${form}`);
+            const place = known === undefined ? options.push({form, count: ZERO}) - 1 : known;
+            places.set(`${form}`, place);
+            const more = signed(stake, FREE.times(stake.quantity, whole(count)));
+            options[place].count = FREE.add(options[place].count, more);
+        }
     }
-    return sum;
+    return {paid, options: options.filter(({count}) => count.over !== 0n)};
+}
+
+/** What is held is worth at a settlement, less what is paid for it.
+ * @param {Held} held @param {State} state */
+export function worth({paid, options}, state) {
+    let sum = ZERO;
+    for (const {form, count} of options) {
+        sum = FREE.add(sum, FREE.times(count, payoff(FREE, form, state)));
+    }
+    return FREE.add(FREE.times(sum, part(state[0])), negative(paid));
 }
 
 /** A price up to which a picture goes: past all bends, the other prices as they are.
@@ -82,18 +106,21 @@ function states(heaps, axis, prices, greatest) {
  * @param {Heap[]} heaps @param {number} axis @param {number[]} prices @param {number} greatest */
 export function curvesOf(heaps, axis, prices, greatest) {
     const bends = states(heaps, axis, prices, greatest);
-    return heaps.map(({told, kind, stakes}) => ({told, kind, points: bends.map(state =>
-        /** @type {[number, number]} */
-        ([Number(state[axis + 1]) / Number(state[0]), near(worth(stakes, state))]))}));
+    return heaps.map(({told, kind, stakes}) => {
+        const held = heldOf(stakes);
+        return {told, kind, points: bends.map(state => /** @type {[number, number]} */
+            ([Number(state[axis + 1]) / Number(state[0]), near(worth(held, state))]))};
+    });
 }
 
 /** The same as an exact table.
  * @param {string} caption @param {Heap[]} heaps @param {number} axis @param {number[]} prices
  * @param {number} greatest */
 export function worthTable(caption, heaps, axis, prices, greatest) {
+    const all = heaps.map(heap => heldOf(heap.stakes));
     const rows = states(heaps, axis, prices, greatest).map(state => {
         const price = FREE.times(whole(state[axis + 1]), part(state[0]));
-        return [`${price}`, ...heaps.map(heap => `${worth(heap.stakes, state)}`)];
+        return [`${price}`, ...all.map(held => `${worth(held, state)}`)];
     });
     const name = underlying(axis, prices.length);
     return tableOf(caption, [`price of ${name}`, ...heaps.map(heap => heap.told)], rows);

@@ -48,15 +48,79 @@ export function tableElement({caption, head, rows}) {
     const scroll = element("div",
         {class: "scroll", tabindex: "0", role: "region", "aria-label": caption}, table);
     if (rows.length > MOST) {
-        const more = element("button", {type: "button", class: "quiet"},
+        const more = element("button", {type: "button", class: "quiet more"},
             `Show all ${rows.length} rows`);
         more.addEventListener("click", () => {
             rows.slice(MOST).forEach(row => body.append(rowOf(row)));
+            scroll.setAttribute("data-all", "");
             more.remove();
         });
         return element("div", {}, scroll, more);
     }
     return scroll;
+}
+
+/** @typedef {{isOpen: boolean, isAll: boolean, hasFocus: boolean, top: number, left: number}} Held
+ * what a reader set of a part: whether it is unfolded, shows all its rows, or has the focus, and
+ * how far it is scrolled */
+
+const SET = "details, summary, .scroll, a, button";
+/** @type {WeakMap<Element, string>} */
+const shown = new WeakMap();
+
+/** What tells a part from others of a place, also after it is made anew.
+ * @param {Element} part */
+const nameOf = part => `${part.tagName} ${part.getAttribute("aria-label")
+    || (part.querySelector("summary") || part).textContent}`;
+
+/** @param {Element} place */
+const partsOf = place => Array.from(place.querySelectorAll(SET));
+
+/** @param {Element} part
+ * @returns {Held} */
+const setOf = part => ({isOpen: part.hasAttribute("open"), isAll: part.hasAttribute("data-all"),
+    hasFocus: part === document.activeElement, top: part.scrollTop, left: part.scrollLeft});
+
+/** @param {Element} part @param {Held} set */
+function setAgain(part, {isOpen, isAll, hasFocus, top, left}) {
+    part.toggleAttribute("open", isOpen);
+    if (isAll && part.nextElementSibling instanceof HTMLButtonElement) {
+        part.nextElementSibling.click();
+    }
+    if (top + left > 0) {
+        part.scrollTo(left, top);
+    }
+    if (hasFocus && part instanceof HTMLElement) {
+        part.focus({preventScroll: true});
+    }
+}
+
+/** Sets what a place shows. Where nothing of it is new it stays, and else what a reader set.
+ * @param {Element} place @param {...Element} parts */
+export function renew(place, ...parts) {
+    const told = parts.map(part => part.outerHTML).join("");
+    // Rows that are not shown yet may be new.
+    const isWhole = parts.every(part => part.querySelector(".more") === null);
+    if (isWhole && shown.get(place) === told) {
+        return;
+    }
+    shown.set(place, told);
+    const before = new Map(partsOf(place).map(part => [nameOf(part), setOf(part)]));
+    place.replaceChildren(...parts);
+    for (const part of partsOf(place)) {
+        const set = before.get(nameOf(part));
+        if (set !== undefined) {
+            setAgain(part, set);
+        }
+    }
+}
+
+/** Sets what a place says; what is said already is not read out again.
+ * @param {HTMLElement} place @param {string} text */
+export function say(place, text) {
+    if (place.textContent !== text) {
+        place.textContent = text;
+    }
 }
 
 /** A table that is folded away.

@@ -4,7 +4,7 @@ import {button, choice, field, numberInput, setOptions} from "./forms.mjs";
 import {mostFor, needOn} from "./needs.mjs";
 import {orderOf, positionOf} from "./stakes.mjs";
 import {AskedLast} from "./asked_last.mjs";
-import {element} from "./tables.mjs";
+import {element, say} from "./tables.mjs";
 import {needWords} from "./refusal_words.mjs";
 import {WorthPicture} from "./worth_picture.mjs";
 import {underlying} from "./words.mjs";
@@ -78,10 +78,9 @@ export class TicketView {
         this.needs = element("p", {id: "ticket-need"});
         this.fills = element("p", {id: "ticket-try"});
         this.told = "";
-        this.tried = new AskedLast(([told]) => {
-            this.told = triedWords(told, this.quantity.value.trim());
-            this.fills.textContent = this.told;
-        });
+        // Whether it is asked what would be filled of the order that the ticket has now.
+        this.isTried = false;
+        this.tried = new AskedLast(([told]) => this.tellTried(told));
         this.line = element("code", {id: "ticket-line"});
         this.send = button("Send the order", () => this.submit());
         this.send.id = "ticket-send";
@@ -198,15 +197,16 @@ export class TicketView {
         const ticket = this.ticket();
         const fault = this.fault(ticket);
         this.send.toggleAttribute("disabled", fault !== "");
-        this.says.textContent = fault;
+        this.isTried = false;
         this.line.textContent = "";
         this.needs.textContent = "";
         if (fault !== "") {
+            say(this.says, fault);
             this.fills.textContent = "";
         }
         if (fault === "") {
             const order = orderFor(ticket);
-            this.says.textContent = `${wordsFor(order)} (Market ${this.market}.)`;
+            say(this.says, `${wordsFor(order)} (Market ${this.market}.)`);
             this.line.textContent = lineOf(ticket);
             this.picture.show([{told: "the order, filled whole at its limit", kind: "held",
                 stakes: [order]}], this.count);
@@ -220,7 +220,8 @@ export class TicketView {
         if (this.state === null || !this.state.isKnown || this.place.hidden) {
             return;
         }
-        this.needs.textContent = needFor(this.state, ticket.account, order);
+        this.needs.textContent = this.state.isOwnKnown
+            ? needFor(this.state, ticket.account, order) : "";
         const [{count, kind, strike, weights}] = ticket.legs;
         if (ticket.legs.length > 1 || count !== "1") {
             this.fills.textContent = "What would be filled now is told of single options alone.";
@@ -231,7 +232,16 @@ export class TicketView {
         const paths = [`try/${asked.join("/")}`];
         this.fills.textContent = this.tried.isNew(paths, this.state.at)
             ? "What would be filled now is asked …" : this.told;
+        this.isTried = true;
         this.tried.want(paths, this.state.at);
+    }
+
+    /** @param {Told} told */
+    tellTried(told) {
+        if (this.isTried) {
+            this.told = triedWords(told, this.quantity.value.trim());
+            this.fills.textContent = this.told;
+        }
     }
 
     submit() {

@@ -1,7 +1,9 @@
 // The page of a member: login, views, lines that are sent, and what is told of them.
 import {AccountView, BatchesView, OperatorView} from "./account_view.mjs";
-import {Feed, Refused, get, keep, keptLine, pause, post, send} from "./gateway.mjs";
+import {Feed, Refused, get, isLoggedOut, keep, keptLines, pause, post, send}
+    from "./gateway.mjs";
 import {TradingState, asksFor} from "./trading_state.mjs";
+import {Loading} from "./loading.mjs";
 import {MarketView} from "./market_view.mjs";
 import {TicketView} from "./ticket_view.mjs";
 import {button} from "./forms.mjs";
@@ -23,8 +25,9 @@ function part(id, kind) {
 
 const section = (/** @type {string} */ id) => part(id, HTMLElement);
 const NAMES = ["market", "ticket", "batches", "account", "operator"];
-// So long nothing is asked anew after it was, in milliseconds.
-const REST = 250;
+// How often it is looked whether a market is known, and what the operator watches, in milliseconds.
+const SOON = 50;
+const WATCH = 3000;
 const lineState = part("line-state", HTMLParagraphElement);
 const loginTold = part("login-told", HTMLParagraphElement);
 
@@ -41,16 +44,37 @@ class Trading {
         if (this.state.isOperator) {
             this.views.push(new OperatorView(section("operator"), line));
         }
-        this.isLoading = false;
-        this.asks = {isPublic: true, isOwn: true};
+        // What is one's own is told by followers, for which what all may see does not wait.
+        this.public = new Loading(() => this.loadPublic(), reloadIfLoggedOut);
+        this.own = new Loading(() => this.loadOwn(), fault => this.tellOwn(fault));
+        this.isThere = false;
+        this.missing = "";
         this.told = element("p", {class: "told", id: "told", role: "status"});
         section("tabs").after(this.told);
-        this.feed = new Feed(events => this.take(events), isThere => showState(isThere));
+        this.feed = new Feed(events => this.take(events), isThere => this.setThere(isThere));
+        if (this.state.isOperator) {
+            // Who opens an account, what a solver proposes and what waits is no event.
+            setInterval(() => section("operator").hidden || this.own.want(), WATCH);
+        }
+    }
+
+    /** @param {boolean} isThere */
+    setThere(isThere) {
+        this.isThere = isThere;
+        this.showState();
+        if (!isThere) {
+            // A feed does not tell why it ended; what is asked does, where a login ended.
+            this.public.want();
+        }
+    }
+
+    show() {
+        this.views.forEach(view => view.show(this.state));
     }
 
     choose() {
         this.state.look(this.market.select.value);
-        this.views.forEach(view => view.show(this.state));
+        this.show();
         this.want({isPublic: true, isOwn: true});
     }
 
@@ -59,34 +83,45 @@ class Trading {
         this.want(asksFor(events));
     }
 
-    /** Asks anew, one time for all that is wanted meanwhile.
+    /** Asks anew what all may see, and what is one's own.
      * @param {{isPublic: boolean, isOwn: boolean}} asks */
-    async want({isPublic, isOwn}) {
-        this.asks = {isPublic: this.asks.isPublic || isPublic, isOwn: this.asks.isOwn || isOwn};
-        if (this.isLoading) {
-            return;
+    want({isPublic, isOwn}) {
+        if (isPublic) {
+            this.public.want();
         }
-        this.isLoading = true;
-        while (this.asks.isPublic || this.asks.isOwn) {
-            await this.load();
-            await pause(REST);
+        if (isOwn) {
+            this.own.want();
         }
-        this.isLoading = false;
     }
 
-    async load() {
-        const asks = this.asks;
-        this.asks = {isPublic: false, isOwn: false};
-        try {
-            await (asks.isPublic ? this.state.loadPublic() : null);
-            await (asks.isOwn ? this.state.loadOwn() : null);
-            this.views.forEach(view => view.show(this.state));
-        } catch (fault) {
-            if (fault instanceof Refused && fault.status === 401) {
-                location.reload();
-            }
-            await pause(1000);
-            this.asks = {isPublic: true, isOwn: true};
+    async loadPublic() {
+        await this.state.loadPublic();
+        this.show();
+    }
+
+    async loadOwn() {
+        while (!this.state.isKnown) {
+            await pause(SOON);
+        }
+        await this.state.loadOwn();
+        this.show();
+    }
+
+    /** @param {unknown} fault null where there was none */
+    tellOwn(fault) {
+        reloadIfLoggedOut(fault);
+        this.missing = fault instanceof Refused ? fault.message : "";
+        this.showState();
+    }
+
+    showState() {
+        const there = this.missing === "" ? "connected"
+            : `connected; balances and positions may be old: ${this.missing}`;
+        const told = this.isThere ? there : "connection lost: asked again …";
+        // What is said already is not read out again.
+        if (lineState.textContent !== told) {
+            lineState.textContent = told;
+            lineState.className = told === "connected" ? "" : "lost";
         }
     }
 
@@ -102,6 +137,14 @@ class Trading {
             this.tell(isRefused ? "no" : "yes", `${isRefused ? "✗" : "✓"} ${line}: ${told}.`);
         } catch (fault) {
             this.tell("no", `✗ ${line}: ${fault instanceof Error ? fault.message : fault}`);
+            reloadIfLoggedOut(fault);
+        }
+    }
+
+    /** Sends what has no answer from before the page was loaded anew, in its order. */
+    async sendKept() {
+        for (const kept of keptLines(this.state.name)) {
+            await this.send(kept.line, kept);
         }
     }
 
@@ -112,10 +155,11 @@ class Trading {
     }
 }
 
-/** @param {boolean} isThere */
-function showState(isThere) {
-    lineState.textContent = isThere ? "connected" : "connection lost: asked again …";
-    lineState.className = isThere ? "" : "lost";
+/** @param {unknown} fault */
+function reloadIfLoggedOut(fault) {
+    if (isLoggedOut(fault)) {
+        location.reload();
+    }
 }
 
 // ---- views
@@ -144,21 +188,18 @@ function begin(me) {
     section("tabs").replaceChildren(element("ul", {}, ...names.map(name => element("li", {},
         element("a", {href: `#${name}`}, name[0].toUpperCase() + name.slice(1))))));
     section("tabs").hidden = false;
-    const leave = button("Log out", () => post("logout").then(() => location.reload()), "quiet");
+    const leave = button("Log out",
+        () => post("logout").then(() => location.reload(), reloadIfLoggedOut), "quiet");
     part("who", HTMLParagraphElement).replaceChildren(`${me.name} (${me.role}) `, leave);
     const trading = new Trading(me);
     window.addEventListener("hashchange", () => {
         showView(names, true);
-        trading.views.forEach(view => view.show(trading.state));
+        trading.show();
     });
-    window.addEventListener("resize", () =>
-        trading.views.forEach(view => view.show(trading.state)));
+    window.addEventListener("resize", () => trading.show());
     showView(names, false);
     trading.want({isPublic: true, isOwn: true});
-    const kept = keptLine(me.name);
-    if (kept !== null) {
-        trading.send(kept.line, kept);
-    }
+    trading.sendKept();
 }
 
 async function start() {
@@ -170,8 +211,7 @@ async function start() {
     }
 }
 
-part("login-form", HTMLFormElement).addEventListener("submit", async event => {
-    event.preventDefault();
+async function logIn() {
     const [name, password] = ["name", "password"].map(id => part(id, HTMLInputElement));
     try {
         begin(await post("login", {name: name.value, password: password.value}));
@@ -180,6 +220,18 @@ part("login-form", HTMLFormElement).addEventListener("submit", async event => {
         loginTold.textContent = fault instanceof Error ? fault.message : "Nobody answers.";
         password.value = "";
         password.focus();
+    }
+}
+
+let isLoggingIn = false;
+part("login-form", HTMLFormElement).addEventListener("submit", event => {
+    event.preventDefault();
+    // By two clicks the views would be laid twice.
+    if (!isLoggingIn) {
+        isLoggingIn = true;
+        logIn().then(() => {
+            isLoggingIn = false;
+        });
     }
 });
 start();

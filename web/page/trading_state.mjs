@@ -33,7 +33,9 @@ export class TradingState {
         /** By how much the clock of the gateway is ahead of this one, in milliseconds. */
         this.ahead = 0;
         this.market = "";
+        // Whether its live orders are told, and one's own positions in it.
         this.isKnown = false;
+        this.isOwnKnown = false;
     }
 
     /** Looks at a market, whose orders and positions are not known yet.
@@ -43,6 +45,7 @@ export class TradingState {
         this.orders = [];
         this.positions = [];
         this.isKnown = false;
+        this.isOwnKnown = false;
     }
 
     /** The market that is looked at.
@@ -112,8 +115,8 @@ export class TradingState {
         this.balances = balances;
         this.needs = needs;
         this.positions = market === this.market ? positions : [];
-        this.history = (await get("history")).lines.filter((/** @type {Told} */ each) =>
-            !["balance", "positions"].includes(each.reply.reply)).reverse();
+        this.isOwnKnown = market === this.market;
+        this.history = (await get("history")).lines.filter(isShown).reverse();
         if (this.isOperator) {
             this.members = (await get("members")).members;
             this.service = await get("service");
@@ -121,14 +124,15 @@ export class TradingState {
     }
 }
 
-const OWN = ["placed", "cancelled", "opened", "deposited", "withdrawn", "secured"];
+/** Whether an answer is shown among one's last lines.
+ * @param {Told} answer */
+const isShown = answer => !["balance", "positions"].includes(answer.reply.reply);
 const MOVING = ["cleared", "settled", "deposited", "closed", "gap"];
 
 /** What is to be asked anew after events: all's, and one's own.
  * @param {Told[]} events */
 export function asksFor(events) {
     const answers = events.filter(each => each.event === "answer");
-    const isOwn = answers.some(each => OWN.includes(each.reply.reply))
-        || events.some(each => MOVING.includes(each.event));
+    const isOwn = answers.some(isShown) || events.some(each => MOVING.includes(each.event));
     return {isPublic: events.length > answers.length, isOwn};
 }

@@ -1,8 +1,8 @@
 // The map of what stakes are worth over two prices at the settlement.
 import {label, picture, rounded, scale, svg, ticks} from "./svg.mjs";
+import {heldOf, worth} from "./stakes.mjs";
 import {near} from "./seen.mjs";
 import {tableOf} from "./steps.mjs";
-import {worth} from "./stakes.mjs";
 
 /** @typedef {import("./stakes.mjs").Heap} Heap */
 
@@ -11,16 +11,23 @@ const LOSSES = ["#fdd0a2", "#fdae6b", "#f16913", "#a63603"];
 const GAINS = ["#c6dbef", "#6baed6", "#2171b5", "#08306b"];
 const NOTHING = "#ffffff";
 
-/** @param {Heap} heap @param {number} right @param {number} up */
-const worthAt = ({stakes}, right, up) =>
-    worth(stakes, [1n, BigInt(Math.round(right)), BigInt(Math.round(up))]);
+/** What a heap is worth at two prices: rounded, and so for drawing alone.
+ * @param {Heap} heap
+ * @returns {(right: number, up: number) => number} */
+export function drawnWorth({stakes}) {
+    const {paid, options} = heldOf(stakes);
+    const less = near(paid);
+    const many = options.map(({form, count}) => ({form: form.map(Number), count: near(count)}));
+    return (right, up) => many.reduce((sum, {form: [strike, first, second], count}) =>
+        sum + count * Math.max(0, strike + first * right + second * up), -less);
+}
 
 /** A shade by how great a worth is beside the greatest.
  * @param {number} value @param {number} most */
 function shade(value, most) {
     const shades = value < 0 ? LOSSES : GAINS;
     const at = Math.ceil(Math.abs(value) / most * shades.length - 1e-9) - 1;
-    return value === 0 ? NOTHING : shades[Math.max(0, at)];
+    return Math.abs(value) <= 1e-9 * most ? NOTHING : shades[Math.max(0, at)];
 }
 
 /** @param {Heap} heap @param {[number, number]} reach @param {number} width
@@ -31,8 +38,9 @@ export function drawWorth(heap, reach, width) {
     const x = scale([0, reach[0]], [box.left, box.right]);
     const y = scale([0, reach[1]], [box.bottom, box.top]);
     const places = Array.from({length: CELLS}, (_, at) => at);
-    const cells = places.flatMap(row => places.map(column => ({row, column, value: near(worthAt(
-        heap, (column + 0.5) / CELLS * reach[0], (row + 0.5) / CELLS * reach[1]))})));
+    const worthAt = drawnWorth(heap);
+    const cells = places.flatMap(row => places.map(column => ({row, column, value: worthAt(
+        (column + 0.5) / CELLS * reach[0], (row + 0.5) / CELLS * reach[1])})));
     const values = cells.map(cell => cell.value);
     const [least, greatest] = [Math.min(...values), Math.max(...values)];
     const most = Math.max(-least, greatest) || 1;
@@ -58,8 +66,9 @@ export function drawWorth(heap, reach, width) {
 export function worthMapTable(heap, reach) {
     const [first, second] = reach.map(greatest =>
         [0, 1, 2, 3, 4].map(step => Math.round(greatest * step / 4)));
-    const rows = second.reverse().map(up =>
-        [`S2 = ${up}`, ...first.map(right => `${worthAt(heap, right, up)}`)]);
+    const held = heldOf(heap.stakes);
+    const rows = second.reverse().map(up => [`S2 = ${up}`,
+        ...first.map(right => `${worth(held, [1n, BigInt(right), BigInt(up)])}`)]);
     return tableOf(`${heap.told}, over the prices of S1 and S2`,
         ["", ...first.map(price => `S1 = ${price}`)], rows);
 }

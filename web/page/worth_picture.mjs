@@ -1,7 +1,7 @@
 // The picture of stakes over one price at the settlement, with the other prices set by hand.
 import {curvesOf, reach, worthTable} from "./stakes.mjs";
 import {drawWorth, worthMapTable} from "./worth_map.mjs";
-import {element, foldedTable} from "./tables.mjs";
+import {element, foldedTable, renew} from "./tables.mjs";
 import {label, line, picture, rounded, scale, svg, ticks} from "./svg.mjs";
 import {field, numberInput} from "./forms.mjs";
 import {underlying} from "./words.mjs";
@@ -110,7 +110,7 @@ export class WorthPicture {
         const width = Math.max(280, Math.min(this.place.clientWidth || 560, 620));
         const name = underlying(axis, prices.length);
         const curves = curvesOf(heaps, axis, prices, greatest);
-        this.drawing.replaceChildren(draw(curves, greatest, name, width),
+        renew(this.drawing, draw(curves, greatest, name, width),
             foldedTable(worthTable(this.caption, heaps, axis, prices, greatest)),
             ...(prices.length === 2 ? this.map(width) : []));
     }

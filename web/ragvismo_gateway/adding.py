@@ -7,7 +7,7 @@
 
 add makes a member with a new password, which is printed, or with that on the first line of FILE. A
 trader trades; a solver may also propose, in lines of up to 16 MB; an operator has one of the
-sessions 1 to 9. password gives a member another one, and ends its logins and tokens. token prints a
+sessions 1 to 7. password gives a member another one, and ends its logins and tokens. token prints a
 secret by which a program is the member, for N days (365): it sends the header "Authorization:
 Bearer SECRET". list prints names, sessions and roles.
 

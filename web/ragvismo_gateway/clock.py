@@ -13,16 +13,18 @@ from ragvismo_service.statuses import BadUse
 
 class Clock(NamedTuple):
     """How often an auctioneer begins an auction, 0 where none does, and which lines of the operator
-    are said when; all in milliseconds."""
+    are said when; all in milliseconds. And the markets of the auctioneer; none are all."""
 
     auctions: int = 0
     steps: tuple[tuple[int, str], ...] = ()
+    auctioned: frozenset[int] = frozenset()
 
     def next(self, number: int, market: Market) -> dict[str, Any] | None:
         """What is done next in a market, and when; an auction that is due begins when there are
         orders."""
         now, found = now_in_milliseconds(), list[tuple[int, str]]()
-        if self.auctions and market.phase == "open":
+        is_auctioned = self.auctions and (not self.auctioned or number in self.auctioned)
+        if is_auctioned and market.phase == "open":
             found.append((market.began + self.auctions, "clear"))
         for at, line in self.steps:
             word, *fields = line.split(",")

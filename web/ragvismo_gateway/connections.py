@@ -4,13 +4,24 @@ from __future__ import annotations
 
 import asyncio
 import collections
+import contextlib
 import ipaddress
 import logging
+import socket
+import ssl
+import traceback
 from typing import Any, NamedTuple
 
 from aiohttp import web
+from aiohttp.http_exceptions import HttpProcessingError
 from ragvismo_gateway.answers import HEADERS, refused
 from ragvismo_gateway.refusals import Reason, Refusal
+
+
+# How long a connection may take to become secret, in seconds.
+HANDSHAKE = 10.0
+# So many bytes wait behind a request for a WebSocket.
+TAIL = 65_536
 
 
 class Most(NamedTuple):
@@ -34,6 +45,11 @@ def network_of(address: str | None) -> str:
     return host if known.version == 4 else str(ipaddress.ip_network(f"{host}/64", strict=False))
 
 
+def network_at(transport: asyncio.BaseTransport) -> str:
+    peer = transport.get_extra_info("peername")
+    return network_of(peer[0] if peer else None)
+
+
 class Connections:
     """What is open, by network where nobody is known, and by member."""
 
@@ -55,8 +71,8 @@ class Connections:
 
     def abort(self, connection: Connection) -> None:
         """Ends a connection of which nobody is known."""
-        if self.unknown.pop(connection, None) is not None and connection.transport:
-            connection.transport.abort()
+        if self.unknown.pop(connection, None) is not None:
+            connection.abort()
 
     def know(self, connection: Connection, name: str) -> None:
         """A connection that is open is a member's; raises Refusal where there are too many."""
@@ -85,24 +101,42 @@ class Connection(web.RequestHandler):
         more: dict[str, Any] = {"access_log": None, "auto_decompress": False, "lingering_time": 1.0}
         super().__init__(server, loop=asyncio.get_running_loop(), **more)
         self.connections, self.member = connections, ""
+        # The socket by which it becomes secret, where it has to.
+        self.own: socket.socket | None = None
 
     def connection_made(self, transport: asyncio.BaseTransport) -> None:
         super().connection_made(transport)
-        peer = transport.get_extra_info("peername")
-        self.connections.begin(self, network_of(peer[0] if peer else None))
+        if not self.own:
+            self.connections.begin(self, network_at(transport))
+
+    def abort(self) -> None:
+        """Ends at once, also before it is secret."""
+        if self.transport:
+            self.transport.abort()
+        elif self.own:
+            with contextlib.suppress(OSError):
+                self.own.shutdown(socket.SHUT_RDWR)
 
     def connection_lost(self, exc: BaseException | None) -> None:
         self.connections.end(self)
         super().connection_lost(exc)
 
     def data_received(self, data: bytes) -> None:
-        super().data_received(data)
-        if len(self._messages) > self.connections.most.waiting and self.transport:
+        try:
+            super().data_received(data)
+            is_much = len(self._messages) > self.connections.most.waiting
+            # What comes behind a request for a WebSocket waits for its answer.
+            is_much = is_much or len(self._message_tail) > TAIL
+        except ValueError:
+            # It asks for no address.
+            is_much = True
+        if is_much and self.transport:
             self.transport.abort()
 
     def log_exception(self, *args: Any, **more: Any) -> None:
-        """What comes of the end of a connection is no fault."""
-        if self.transport is not None:
+        """What comes of the end of a connection is no fault, nor of what is no HTTP."""
+        is_http = not isinstance(more.get("exc_info"), HttpProcessingError)
+        if self.transport is not None and is_http:
             super().log_exception(*args, **more)
 
     def handle_error(
@@ -122,3 +156,36 @@ class Connection(web.RequestHandler):
         response.headers.update(HEADERS)
         response.force_close()
         return response
+
+
+class Greeting(asyncio.Protocol):
+    """Has a connection become secret, which is counted from its beginning: what is not secret yet
+    takes more memory than what is, and nobody is known by it."""
+
+    def __init__(self, connection: Connection, context: ssl.SSLContext) -> None:
+        self.connection, self.context = connection, context
+
+    def connection_made(self, transport: asyncio.BaseTransport) -> None:
+        assert isinstance(transport, asyncio.Transport)
+        made = self.connection
+        try:
+            own: socket.socket = transport.get_extra_info("socket").dup()
+        except OSError:
+            return
+        finally:
+            # Nothing was read by it, and the connection goes on by a socket of its own.
+            transport.abort()
+        made.own = own
+        made.connections.begin(made, network_at(transport))
+        self.task = asyncio.get_running_loop().create_task(self.greet(made, own))
+
+    async def greet(self, made: Connection, own: socket.socket) -> None:
+        loop = asyncio.get_running_loop()
+        try:
+            await loop.connect_accepted_socket(
+                lambda: made, own, ssl=self.context, ssl_handshake_timeout=HANDSHAKE
+            )
+        except OSError as fault:
+            made.connections.end(made)
+            # These hold what it was to become secret by, which is large, and hold one another.
+            traceback.clear_frames(fault.__traceback__)

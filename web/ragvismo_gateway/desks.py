@@ -31,6 +31,8 @@ from ragvismo_service.store import Command, Store
 PATIENCE = 10.0
 # How much is sent together.
 TOGETHER = 200
+# So often who waits for what changes is woken though nothing did, in seconds.
+QUIET = 20.0
 
 
 class Answer(NamedTuple):
@@ -133,6 +135,7 @@ class Desks:
         self.reader = Reader(self.follower, self._from_thread(self._send_again), self.fail)
         self.writer = Writer(stores[1], kept, self.fail)
         self.is_reading = False
+        self.elsewhere: dict[tuple[int, str], bytes] = {}
 
     # ---- beginning
 
@@ -143,9 +146,11 @@ class Desks:
         kept = self.kept()
         for session in kept.sessions():
             self._begin_desk(session, kept)
+        self.elsewhere = kept.last_elsewhere()
         kept.close()
         self.reader.start()
         self.writer.start()
+        self.loop.call_later(QUIET, self._tick)
 
     def _begin_desk(self, session: int, kept: Kept) -> None:
         """Takes the keys of a session; its newest message, if it is the next, is sent again."""
@@ -191,10 +196,17 @@ class Desks:
         else:
             self.view.take(answered)
 
-    def _take_now(self, answered: Answered) -> None:
-        told = self.view.take(answered)
+    def _tick(self) -> None:
+        self._wake()
+        self.loop.call_later(QUIET, self._tick)
+
+    def _wake(self) -> None:
         self.changed.set()
         self.changed = asyncio.Event()
+
+    def _take_now(self, answered: Answered) -> None:
+        told = self.view.take(answered)
+        self._wake()
         if told:
             session, number = told
             pending = self.desks[session].pending if session in self.desks else None
@@ -223,6 +235,7 @@ class Desks:
             async with desk.lock:
                 number = desk.numbers.get(key)
                 if number is None:
+                    self._check_elsewhere(session, line, key)
                     await self._wait(desk, "it was not taken")
                     check()
                     number = self._send(desk, session, line, key)
@@ -230,6 +243,12 @@ class Desks:
                 return self._answer(session, number, line, key)
         finally:
             desk.waiting -= 1
+
+    def _check_elsewhere(self, session: int, line: bytes, key: str) -> None:
+        """Raises Refusal where a line may count in another exchange, to which it was sent last."""
+        if self.elsewhere.get((session, key)) == line:
+            told = "it was sent under this key to another exchange, and may count there"
+            raise Refusal(Reason.KEY_USED, told)
 
     def _send(self, desk: Desk, session: int, line: bytes, key: str) -> int:
         message = Message(session, self.view.last.get(session, 0) + 1, key, line)

@@ -51,10 +51,12 @@ def news(view: View, member: Member, since: int) -> Iterator[tuple[int, str]]:
 
 
 def frame(view: View, member: Member, since: int) -> str:
-    """All that came after a place in the log; where not all of it is kept the first says so."""
+    """All that came after a place in the log; where not all of it is kept the first says so, and
+    where the log is not so long: it lost its end, or is that of another exchange."""
     told = [text for _, text in sorted(news(view, member, since), key=lambda it: it[0])]
     kept_all = len(view.events) < (view.events.maxlen or 0) or view.events[0].at <= since + 1
-    gap = [] if kept_all and view.dropped[member.session] <= since else ['{"event":"gap"}']
+    kept_all = kept_all and view.dropped[member.session] <= since <= view.count
+    gap = [] if kept_all else ['{"event":"gap"}']
     return f'{{"at":{view.count},"events":[{",".join(gap + told)}]}}'
 
 
@@ -68,20 +70,22 @@ async def send(socket: web.WebSocketResponse, text: str) -> None:
 async def tell(
     socket: web.WebSocketResponse, desks: Desks, known: Callable[[], Member | None], since: int
 ) -> None:
-    """Tells what comes, until the socket is closed, or nobody is known by it any more."""
-    view, is_first = desks.view, True
+    """Tells what comes, and now and then that nothing did, so that who hears nothing knows of a
+    loss; until the socket is closed, or nobody is known by it any more."""
+    view, is_due = desks.view, True
     while not socket.closed:
         changed = desks.changed
-        if is_first or view.count > since:
+        if is_due or view.count > since:
             member = known()
             if member is None:
                 await socket.close()
                 return
-            told, since, is_first = frame(view, member, since), view.count, False
+            told, since, is_due = frame(view, member, since), view.count, False
             await send(socket, told)
             await asyncio.sleep(TOGETHER)
         else:
             await changed.wait()
+            is_due = True
 
 
 Taking = Callable[[str, str], Awaitable[tuple[int, dict[str, Any]]]]

@@ -61,6 +61,13 @@ class Kept:
         asked = f"SELECT session, number, key, body FROM messages WHERE {ROW} ORDER BY number"
         return [Message(*row) for row in self.file.execute(asked, (self.exchange, session))]
 
+    def last_elsewhere(self) -> dict[tuple[int, str], bytes]:
+        """What each session said last in other exchanges, by session and key: just that may be sent
+        again by who had no answer when this one began."""
+        asked = "SELECT session, key, body FROM messages WHERE exchange <> ? AND body <> x''"
+        rows = self.file.execute(asked, (self.exchange,))
+        return {(session, key): body for session, key, body in rows}
+
     def forget(self, session: int, last: int) -> None:
         """Takes away the messages of a session after its last one."""
         after = f"DELETE FROM messages WHERE {ROW} AND number > ?"

@@ -25,6 +25,8 @@ class Limits(NamedTuple):
     lines: Rate = Rate(40, 20)
     asked: Rate = Rate(200, 50)
     questions: Rate = Rate(60, 10)
+    # What came since a place may be long to tell.
+    openings: Rate = Rate(16, 1)
     logins: Rate = Rate(20, 0.5)
     logins_of_name: Rate = Rate(5, 0.05)
     waiting: int = 16

@@ -15,8 +15,9 @@ from ragvismo_service.statuses import BadUse
 
 NAME = re.compile(r"[A-Za-z0-9][A-Za-z0-9_.-]{0,31}")
 ROLES = ("trader", "solver", "operator")
-# Sessions up to this one are the operator's.
-LAST_OF_OPERATOR = 9
+# Sessions up to this one are the operator's. Members have those up to the other one, since web/up
+# speaks in session 8, and an auctioneer in session 9.
+LAST_OF_OPERATOR, LAST_GIVEN = 9, 7
 LOGIN_DAYS = 7
 # How many logins of a member hold at once, and how many tokens; one more ends the oldest.
 TOKENS = 20
@@ -68,7 +69,7 @@ class Members:
         if not NAME.fullmatch(name):
             raise BadUse(f"{name!r} is no name: 1 to 32 letters, digits, and . _ - after the first")
         hashed = hashed_password(password)
-        limits = (1, LAST_OF_OPERATOR) if role == "operator" else (LAST_OF_OPERATOR + 1, 999_999)
+        limits = (1, LAST_GIVEN) if role == "operator" else (LAST_OF_OPERATOR + 1, 999_999)
         asked = "SELECT coalesce(max(session), ?) + 1 FROM members WHERE session BETWEEN ? AND ?"
         with together(self.file):
             if self.named(name):

@@ -121,6 +121,7 @@ class Gateway:
         self.lines, self.asked = Buckets(limits.lines), Buckets(limits.asked)
         self.logins, self.names = Buckets(limits.logins), Buckets(limits.logins_of_name)
         self.asking, self.questioned = Buckets(limits.questions), collections.Counter[str]()
+        self.openings = Buckets(limits.openings)
         self.answers: dict[str, Asked] = {}
         self.hashing, self.reading = asyncio.Semaphore(HASHES), asyncio.Lock()
         self.sockets: dict[str, list[tuple[str, web.WebSocketResponse]]] = collections.defaultdict(
@@ -144,15 +145,24 @@ class Gateway:
         is_asking = request.method in ("GET", "HEAD") and request.path != "/feed"
         if not is_asking and site not in (None, "same-origin", "none"):
             raise Refusal(Reason.ORIGIN, "another page asks")
-        if not is_asking and origin is None and self.cookie in request.cookies:
+        if not is_asking and origin is None and self.login_of(request):
             raise Refusal(Reason.ORIGIN, "with a cookie the page that asks has to be told")
+
+    def login_of(self, request: web.Request) -> str:
+        """The cookie of a login, or nothing. Other pages of the host may have set others beside it,
+        in any form."""
+        for part in request.headers.get("Cookie", "").split(";"):
+            name, _, value = part.strip().partition("=")
+            if name == self.cookie and value:
+                return value
+        return ""
 
     def known(self, request: web.Request) -> Member | None:
         """Who asks, by a token or a login."""
         kind, _, token = request.headers.get("Authorization", "").partition(" ")
         if token:
             return self.members.known_by(token, "token") if kind == "Bearer" else None
-        return self.members.known_by(request.cookies.get(self.cookie, ""), "login")
+        return self.members.known_by(self.login_of(request), "login")
 
     def member_of(self, request: web.Request) -> Member:
         member = self.known(request)
@@ -167,7 +177,13 @@ class Gateway:
         if isinstance(request.protocol, Connection):
             self.connections.know(request.protocol, member.name)
 
-    @TABLE.add("POST", "/login", True, '{"name":..,"password":..}', s200="a cookie for 7 days")
+    @TABLE.add(
+        "POST",
+        "/login",
+        True,
+        '{"name":..,"password":..}',
+        s200="a cookie of a login that holds for 7 days",
+    )
     async def login(self, request: web.Request) -> web.StreamResponse:
         """Logs in."""
         try:
@@ -199,7 +215,9 @@ class Gateway:
     @TABLE.add("POST", "/logout", s200="the login is gone, and its feeds are closed")
     async def logout(self, request: web.Request) -> web.StreamResponse:
         """Logs out."""
-        member, token = self.member_of(request), request.cookies.get(self.cookie, "")
+        member, token = self.member_of(request), self.login_of(request)
+        if not self.members.known_by(token, "login"):
+            raise Refusal(Reason.FORM, "a token is no login: another password ends it")
         self.members.take_token(token)
         for login, socket in list(self.sockets[member.name]):
             if login == token:
@@ -320,8 +338,7 @@ class Gateway:
     async def batches(self, request: web.Request) -> web.StreamResponse:
         """The last 200 batches that were cleared, in short."""
         self.member_of(request)
-        last = list(self.view.batches.values())[-200:]
-        return answered({"batches": [batch.said for batch in last]})
+        return answered({"batches": self.view.last_batches(200)})
 
     @TABLE.add("GET", "/batches/{batch}", s200="the line, byte for byte, to be rechecked")
     async def batch(self, request: web.Request) -> web.StreamResponse:
@@ -411,8 +428,8 @@ class Gateway:
         "/feed",
         takes="",
         s101='a WebSocket. Frames {"at":..,"events":[..]} tell what all may see and your own'
-        ' answers, after the place in ?since=AT where it is given; {"key":..,"line":..} sends a'
-        " line, and is answered as by /lines, with the status",
+        " answers, after the place in ?since=AT where it is given, and one comes each 20 s at"
+        ' least; {"key":..,"line":..} sends a line, and is answered as by /lines, with the status',
     )
     async def feed(self, request: web.Request) -> web.StreamResponse:
         """Tells what comes as it comes, and takes lines."""
@@ -420,9 +437,10 @@ class Gateway:
         if len(self.sockets[member.name]) >= self.limits.feeds:
             told = f"a member has at most {self.limits.feeds} feeds"
             raise Refusal(Reason.OFTEN, told)
+        self.openings.take(member.name)
         longest = 2 * rule.PROPOSAL if member.may_propose else 2 * rule.LINE
         socket = web.WebSocketResponse(heartbeat=20, max_msg_size=longest)
-        held = request.cookies.get(self.cookie, ""), socket
+        held = self.login_of(request), socket
         self.sockets[member.name].append(held)
         try:
             await socket.prepare(request)

@@ -2,14 +2,15 @@
 accounts alone.
 
     web/gateway FOLDER [--listen HOST:PORT] [--certificate FILE --key FILE] [--host NAME]
-                [--auctions SECONDS] [--timetable FILE] [--at PLACE] [--password FILE]
+                [--auctions SECONDS] [--auctioned MARKET] [--timetable FILE] [--at PLACE]
+                [--password FILE]
 
 FOLDER has the members (web/members adds them) and the messages that are not answered yet. Without a
 certificate it listens on the loopback address alone (127.0.0.1:8000, if not given). --host, once
 for each, tells by which names it is reached beside that. --auctions and --timetable tell what the
-page's clock shows: how often an auctioneer begins an auction, and a list [[MILLISECONDS, LINE],..]
-of what the operator says when. What is asked is asked of service/follower, of which one has to run.
-docs/WEB.md says more.
+page's clock shows: how often an auctioneer begins an auction (in all markets, or in those of
+--auctioned, once for each), and a list [[MILLISECONDS, LINE],..] of what the operator says when.
+What is asked is asked of service/follower, of which one has to run. docs/WEB.md says more.
 
 It runs until it is stopped, or ends with one line on standard error and status
 """
@@ -23,13 +24,13 @@ import resource
 import signal
 import ssl
 from argparse import Namespace
-from typing import Any, NamedTuple
+from typing import NamedTuple
 
 from aiohttp import web
 from ragvismo_gateway import clock
 from ragvismo_gateway.asking import Questions
 from ragvismo_gateway.clock import Clock
-from ragvismo_gateway.connections import Connection
+from ragvismo_gateway.connections import Connection, Greeting
 from ragvismo_gateway.desks import Desks
 from ragvismo_gateway.keeping import Kept
 from ragvismo_gateway.limits import Limits
@@ -41,10 +42,8 @@ from ragvismo_service import files
 from ragvismo_service.statuses import BadUse, Status, table
 from ragvismo_service.store import Store
 from ragvismo_service.watchdog import ready
-from ragvismo_service.words import Words, place_of, seconds, status_of
+from ragvismo_service.words import Words, market, place_of, seconds, status_of
 
-# How long a connection may take to become secret, in seconds.
-HANDSHAKE = 10.0
 STATUSES = (
     Status.BAD_USE,
     Status.NO_REDIS,
@@ -118,7 +117,8 @@ async def serve(given: Namespace, context: ssl.SSLContext | None) -> None:
     gateway = Gateway(desks, questions, members, stores[2], Limits())
     gateway.hosts = given.listen.names() | set(given.host)
     gateway.is_secure = context is not None
-    gateway.clock = Clock(int(1000 * given.auctions), given.timetable)
+    auctioned = frozenset(given.auctioned)
+    gateway.clock = Clock(int(1000 * given.auctions), given.timetable, auctioned)
     runner = web.AppRunner(application(gateway))
     await runner.setup()
     listening = await listen(given.listen, context, runner, gateway)
@@ -142,15 +142,14 @@ async def listen(
 ) -> asyncio.Server:
     """Takes connections; raises BadUse where that is not possible."""
 
-    def connection() -> Connection:
+    def connection() -> asyncio.Protocol:
         assert runner.server
-        return Connection(runner.server, gateway.connections)
+        made = Connection(runner.server, gateway.connections)
+        return Greeting(made, context) if context else made
 
-    loop, more = asyncio.get_running_loop(), dict[str, Any]()
-    if context:
-        more = {"ssl": context, "ssl_handshake_timeout": HANDSHAKE}
+    loop = asyncio.get_running_loop()
     try:
-        return await loop.create_server(connection, at.host, at.port, **more)
+        return await loop.create_server(connection, at.host, at.port)
     except OSError as fault:
         raise BadUse(f"it cannot listen at {at.host}:{at.port}: {fault.strerror}") from None
 
@@ -169,6 +168,7 @@ def run() -> None:
     words.add_argument("--key", metavar="FILE")
     words.add_argument("--host", action="append", default=[], metavar="NAME")
     words.add_argument("--auctions", type=seconds, default=0.0, metavar="SECONDS")
+    words.add_argument("--auctioned", type=market, action="append", default=[], metavar="MARKET")
     words.add_argument("--timetable", type=clock.read, default=(), metavar="FILE")
     given = words.parse_args()
     context = security(given)

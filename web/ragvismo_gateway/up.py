@@ -10,7 +10,7 @@ where this one ended. There are an operator and the members of web/demonstration
 passwords are printed, and markets with a few orders; not so with --empty. With --experiment FILE
 tells markets, members, what they have, and a timetable (web/ragvismo_gateway/setting.py says how);
 at the end FOLDER/journal has all messages and answers, and FOLDER/tables what they come to, as
-ragvismo.JournalFrames.read takes it.
+ragvismo.JournalFrames.read takes it. Another file needs another FOLDER.
 
 It ends with 0 at the end of a timetable, when Redis ends, or when another part does with a status
 at which a person has to look, which is told; or with
@@ -118,6 +118,7 @@ class Exchange:
         if self.setting.auctions and markets:
             every = str(self.setting.auctions)
             gateway += ["--auctions", every]
+            gateway += [word for market in markets for word in ("--auctioned", market)]
             words = *markets, "--every", every, "--solve", SOLVE
             parts.append(self.part("auctioneer", "auctioneer", *words))
             solver = str(FIRST_SOLVER)
@@ -185,6 +186,16 @@ class Exchange:
 
     # ---- what it begins with
 
+    def check_same(self, setting: Setting) -> None:
+        """Keeps what the exchange begins with; raises BadUse where it began with something else,
+        whose members are not these, and whose timetable is over."""
+        path = self.folder / "setting.json"
+        told = json.dumps([setting.markets, setting.members, setting.timetable]).encode()
+        if not path.exists():
+            files.write(path, told)
+        if path.read_bytes() != told:
+            raise BadUse(f"{self.folder} began with another experiment: give another FOLDER")
+
     def passwords(self) -> dict[str, str]:
         """Those of the members, made where there are none."""
         path, names = self.folder / "passwords.json", [it.name for it in self.setting.members]
@@ -194,7 +205,9 @@ class Exchange:
         return dict(json.loads(path.read_bytes()))
 
     def begin(self, setting: Setting) -> None:
-        """Adds members and says what a setting tells; a second time nothing changes."""
+        """Adds members and says what a setting tells; a second time nothing changes. Raises BadUse
+        where it is another one."""
+        self.check_same(setting)
         self.setting = setting
         done, told = self.folder / "begun", self.passwords()
         files.make(self.folder / "gateway")

@@ -4,6 +4,7 @@ what each session was answered."""
 from __future__ import annotations
 
 import collections
+import itertools
 import json
 from collections.abc import Callable
 from typing import Any, NamedTuple
@@ -14,8 +15,9 @@ from ragvismo_service.messages import time_of
 
 # How many events can be told again to who lost the connection.
 EVENTS = 10_000
-# How much of what a session said, and was answered, is kept.
+# How much of what a session said, and was answered, is kept; so many as are kept of this size are.
 KEPT_BYTES = 4 << 20
+SHORT = KEPT_BYTES // KEPT
 ORDERS = {"buy", "sell", "bundle"}
 
 
@@ -130,6 +132,17 @@ def reply_text(answer: bytes) -> bytes:
     return answer[begin + 5 : end] if answer.startswith(b'{"number":') and begin > 0 else answer
 
 
+def too_much(said: dict[int, Spoken], size: int) -> int:
+    """The number of what is to be kept no more of what a session said, of so many bytes; 0 where
+    all may stay. A clear or a proposal may be long, and does not push out what moved money."""
+    if len(said) > KEPT:
+        return next(iter(said))
+    if size <= KEPT_BYTES:
+        return 0
+    *others, _ = said
+    return next((number for number in others if said[number].size() > SHORT), 0)
+
+
 class View:
     """Takes each entry of the log with its answer, in order."""
 
@@ -180,10 +193,10 @@ class View:
         said = self.spoken[session]
         said[number] = spoken
         self.sizes[session] += spoken.size()
-        while len(said) > KEPT or (self.sizes[session] > KEPT_BYTES and len(said) > 1):
-            oldest = said.pop(next(iter(said)))
-            self.sizes[session] -= oldest.size()
-            self.dropped[session] = oldest.at
+        while (old := too_much(said, self.sizes[session])) > 0:
+            gone = said.pop(old)
+            self.sizes[session] -= gone.size()
+            self.dropped[session] = max(self.dropped[session], gone.at)
 
     def _tell(
         self, account: int, payouts: list[dict[str, Any]], is_for_all: bool = True, **said: Any
@@ -197,6 +210,12 @@ class View:
         """How many live orders a session has in a market."""
         orders = self.markets[market].orders.values() if market in self.markets else ()
         return sum(self.owners.get(order.account) == session for order in orders)
+
+    def last_batches(self, most: int) -> list[dict[str, Any]]:
+        """What the newest batches say in short, the oldest of them first, in a moment however many
+        there are."""
+        newest = list(itertools.islice(reversed(self.batches.values()), most))
+        return [batch.said for batch in reversed(newest)]
 
     def _touch(self, *accounts: int) -> None:
         """What moves money of an account may move the house's."""

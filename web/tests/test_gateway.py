@@ -13,7 +13,9 @@ from tests import TOP, WEB
 from tests.trading import IS_SKIPPED, SECRET, Trading, Visitor
 
 if not IS_SKIPPED:
+    import aiohttp
     from ragvismo_gateway.connections import Most
+    from ragvismo_gateway.limits import Limits
     from ragvismo_gateway.members import Members
     from ragvismo_gateway.members_file import FILE
 
@@ -64,6 +66,13 @@ class Gateway(Trading):
             return list((await feed.receive_json())["events"])
 
         return visitor.over_socket(first, f"/feed?since={since}")
+
+    def test_a_feed_tells_what_is_not_kept(self) -> None:
+        """As where it goes on from a place that is not there: that of another exchange."""
+        ana = self.visitor("ana")
+        at = ana.get("/markets")["at"]
+        self.assertNotIn({"event": "gap"}, self.events(ana, at))
+        self.assertEqual(self.events(ana, at + 1_000_000), [{"event": "gap"}])
 
     def test_a_book_is_that_of_the_exchange(self) -> None:
         ben, operator = self.visitor("ben"), self.visitor("operator")
@@ -245,6 +254,18 @@ class Gateway(Trading):
         # A token is no cookie.
         self.assertEqual(program.ask("GET", "/me", Cookie=f"ragvismo={token}").status, 401)
 
+        async def stay(feed: Any) -> bool:
+            await feed.receive_json()
+            told = await asyncio.to_thread(program.ask, "POST", "/logout", None, **named)
+            await feed.send_json({"key": "", "line": "balance,101"})
+            while "status" not in (said := await feed.receive_json()):
+                """Nothing came."""
+            return bool((told.status, said["status"]) == (400, 200))
+
+        named = {"Authorization": f"Bearer {token}"}
+        program.headers = named
+        self.assertTrue(program.over_socket(stay))
+
     def test_a_login_ends(self) -> None:
         """By a logout, and by another password; its feeds end too."""
         eva = Visitor(self.port)
@@ -253,7 +274,9 @@ class Gateway(Trading):
         async def leave(feed: Any) -> bool:
             await feed.receive_json()
             await asyncio.to_thread(eva.ask, "POST", "/logout")
-            return bool((await feed.receive()).type.name.startswith("CLOS"))
+            while (told := await feed.receive()).type is aiohttp.WSMsgType.TEXT:
+                """Nothing came."""
+            return bool(told.type.name.startswith("CLOS"))
 
         self.assertTrue(eva.over_socket(leave, "/feed"))
         self.assertEqual(eva.ask("GET", "/me").status, 401)
@@ -263,7 +286,9 @@ class Gateway(Trading):
             await feed.receive_json()
             Members(self.folder / FILE).change("eva", "another")
             await feed.send_json({"key": "a", "line": "open,599"})
-            return int((await feed.receive_json())["status"])
+            while "status" not in (told := await feed.receive_json()):
+                """Nothing came."""
+            return int(told["status"])
 
         self.assertEqual(eva.over_socket(stay), 401)
         self.assertEqual(eva.ask("GET", "/me").status, 401)
@@ -304,6 +329,14 @@ class Gateway(Trading):
         self.assertIn("SameSite=Strict", told.headers["Set-Cookie"])
         self.assertIn("frame-ancestors 'none'", told.headers["Content-Security-Policy"])
 
+    def test_cookies_of_other_pages(self) -> None:
+        """Which a browser sends too, where another page of this host has set them."""
+        ana = self.visitor("ana")
+        for other in ("a/b=1", 'x={"a":1}', "\xfc=1", "=", "ragvismo"):
+            told = ana.ask("GET", "/me", Cookie=f"{other}; {ana.cookie}")
+            self.assertEqual(told.status, 200, other)
+            self.assertEqual(self.visitor().ask("GET", "/me", Cookie=other).status, 401, other)
+
     def test_too_much(self) -> None:
         ana = self.visitor("ana")
         self.assertEqual(ana.line("9" * 5000).status, 413)
@@ -337,6 +370,25 @@ class Gateway(Trading):
                 self.assertEqual(answer.status, status, said[:40])
                 self.assertEqual(json.loads(answer.read())["reply"], "gateway")
                 self.assertEqual(answer.headers["X-Content-Type-Options"], "nosniff")
+
+    def test_what_is_no_http_is_not_written_down(self) -> None:
+        """Nor does what comes behind a request for a WebSocket pile up."""
+        host = f"Host: 127.0.0.1:{self.port}\r\n".encode()
+        wanted = b"Upgrade: websocket\r\nConnection: upgrade\r\n\r\n"
+        for said in (
+            b"GET http://[::1/me HTTP/1.1\r\n" + host + b"\r\n",
+            b"GET /me HTTP/1.1\r\n" + host + wanted + b"no frame",
+            b"GET /feed HTTP/1.1\r\n" + host + wanted + b"9" * 1_000_000,
+        ):
+            with socket.create_connection(("127.0.0.1", self.port), 60) as one:
+                try:
+                    one.sendall(said)
+                except ConnectionError:
+                    pass
+                self.assertTrue(has_ended(one), said[:40])
+        log = (self.folder / "gateway.log").read_text()
+        self.assertNotIn("data_received", log)
+        self.assertNotIn("Unhandled", log)
 
     def test_connections_of_nobody(self) -> None:
         """The oldest of many ends, and so does one that asks and asks and reads nothing."""
@@ -385,6 +437,19 @@ class Gateway(Trading):
 
         self.assertEqual(more(8), 429)
         ben.over_socket(none)
+
+    def test_a_feed_is_not_opened_all_the_time(self) -> None:
+        """Since all that came may be told to each."""
+        operator, most = self.visitor("operator"), int(Limits().openings.burst)
+
+        async def opened(feed: Any) -> bool:
+            await feed.receive_json()
+            return True
+
+        with self.assertRaises(aiohttp.WSServerHandshakeError) as told:
+            for _ in range(3 * most):
+                operator.over_socket(opened, "/feed?since=0")
+        self.assertEqual(told.exception.status, 429)
 
 
 def has_ended(one: socket.socket) -> bool:

@@ -4,10 +4,12 @@ from __future__ import annotations
 
 import http.client
 import json
+import socket
 import ssl
 import subprocess
 
 from tests import WEB, wants
+from tests.test_gateway import has_ended
 from tests.trading import SECRET, Trading
 
 
@@ -23,9 +25,25 @@ class Secure(Trading):
         subprocess.run(made, check=True, capture_output=True)
         return [*super().words(part), "--certificate", files[0], "--key", files[1]]
 
-    def test_a_cookie_is_sent_by_https_alone(self) -> None:
+    def test_connections_that_do_not_become_secret(self) -> None:
+        """They are counted too: the oldest of many ends, and others come in meanwhile."""
+        held = [socket.create_connection(("127.0.0.1", self.port), 5) for _ in range(60)]
+        for one in held:
+            self.addCleanup(one.close)
+        self.assertEqual([has_ended(one) for one in held[:20]], [True] * 20)
+        connection = self.connected()
+        connection.request("GET", "/")
+        self.assertEqual(connection.getresponse().status, 200)
+        connection.close()
+        held[-1].sendall(b"GET / HTTP/1.1\r\n\r\n")
+        self.assertTrue(has_ended(held[-1]))
+
+    def connected(self) -> http.client.HTTPSConnection:
         context = ssl.create_default_context(cafile=str(self.folder / "certificate"))
-        connection = http.client.HTTPSConnection("localhost", self.port, context=context)
+        return http.client.HTTPSConnection("localhost", self.port, context=context)
+
+    def test_a_cookie_is_sent_by_https_alone(self) -> None:
+        connection = self.connected()
         said = json.dumps({"name": "ana", "password": SECRET})
         connection.request("POST", "/login", said, {"Origin": f"https://localhost:{self.port}"})
         answer = connection.getresponse()

@@ -40,6 +40,10 @@ class Keeping(unittest.TestCase):
         self.assertEqual(other.sessions(), [])
         other.keep([Message(10, 1, "a", b"open,2")])
         self.assertEqual([it.body for it in self.kept().of(10)], [b"open,1"])
+        self.assertEqual(other.last_elsewhere(), {(10, "a"): b"open,1"})
+        self.kept().keep([Message(10, 2, "b", b"open,3")])
+        self.assertEqual(other.last_elsewhere(), {(10, "b"): b"open,3"})
+        self.assertEqual(self.kept().last_elsewhere(), {(10, "a"): b"open,2"})
 
     def test_the_last_thousand(self) -> None:
         kept = self.kept()

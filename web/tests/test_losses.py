@@ -66,6 +66,36 @@ class Losses(Trading):
         self.sent(101, ("gateway", "gateway", "redis", "gateway"))
 
 
+class Next(Trading):
+    """Another exchange, with the same members."""
+
+    exchange = "first"
+
+    @classmethod
+    def words(cls, part: str) -> list[object]:
+        place = f"{cls.redis_port}/{cls.exchange}"
+        given = super().words(part)
+        return given if part == "redis" else [place if it == cls.redis_port else it for it in given]
+
+    def test_a_line_counts_in_one_exchange(self) -> None:
+        """It is not sent again to the next one by who had no answer; another line may have its
+        key."""
+        self.say(ana="open,101", operator="deposit,101,100")
+        ana = self.visitor("ana")
+        self.assertEqual(ana.line("withdraw,101,1", "last").status, 200)
+        for part in ("gateway", "sequencer", "follower"):
+            self.kill(part)
+        type(self).exchange = "second"
+        for part in ("sequencer", "follower", "gateway"):
+            self.start(part)
+        self.say(ana="open,101", operator="deposit,101,99")
+        told = ana.line("withdraw,101,1", "last")
+        self.assertEqual((told.status, told.json()["reason"]), (409, "KeyUsed"))
+        self.assertEqual(ana.line("withdraw,101,1", "first").status, 200)
+        self.assertEqual(ana.line("withdraw,101,2", "last").status, 200)
+        self.assertEqual(ana.get("/balance/101")["balance"], "96")
+
+
 class Floods(Trading):
     @classmethod
     def setUpClass(cls) -> None:

@@ -155,6 +155,11 @@ class Page(Together):
         told = "6/7 (≈ 0.8571), 1/7 (≈ 0.1429) less than the surplus."
         self.assertIn(told, self.text("kept"))
         self.shot("screen-no")
+        self.resize(TELEPHONE)
+        long = f"{'9' * 37}7/{'9' * 37}8"
+        self.read(line.replace('"surplus":"6/7"', f'"surplus":"{long}"'))
+        self.assertIn(long, self.recheck())
+        self.shot("telephone-no")
 
     def test_keys_alone(self) -> None:
         pressed = webdriver.ActionChains(self.browser)

@@ -18,6 +18,7 @@ TRADING = {
     "depth_picture",
     "forms",
     "gateway",
+    "loading",
     "market_view",
     "probe_view",
     "refusal_words",

@@ -9,10 +9,14 @@ from typing import Any
 
 from tests import wants
 from tests.test_page import SCREEN, SHOTS, TELEPHONE, open_browser, serve_folder
-from tests.trading import SECRET, Trading
+from tests.trading import IS_SKIPPED, SECRET, Trading
+
+if not IS_SKIPPED:
+    from ragvismo_gateway.members import Members
+    from ragvismo_gateway.members_file import FILE
 
 try:
-    from selenium.common.exceptions import StaleElementReferenceException
+    from selenium.common.exceptions import NoSuchElementException, StaleElementReferenceException
     from selenium.webdriver import ActionChains
     from selenium.webdriver.common.by import By
     from selenium.webdriver.common.keys import Keys
@@ -57,7 +61,7 @@ class TradingPage(Trading):
             try:
                 if holds():
                     return
-            except StaleElementReferenceException:
+            except (NoSuchElementException, StaleElementReferenceException):
                 pass
             if time.monotonic() > end:
                 self.shot("failed")
@@ -178,7 +182,10 @@ class TradingPage(Trading):
     def test_a_ticket_is_said_and_drawn(self) -> None:
         self.enter("ana")
         self.view("ticket")
-        self.set("ticket", Kind="butterfly")
+        self.set("ticket", Strike="11", Kind="butterfly")
+        time.sleep(1)
+        alone = "What would be filled now is told of single options alone."
+        self.assertEqual(self.text("ticket-try"), alone)
         said = "Buy 1 of: +1 call 8, −2 call 10, +1 call 12, for at most 6 each."
         self.assertIn(said, self.text("ticket-says"))
         line = "bundle,101,1,buy,6,1,3,1,call,8,1,-2,call,10,1,1,call,12,1"
@@ -189,6 +196,10 @@ class TradingPage(Trading):
         self.assertEqual(self.text("ticket-says"), "Each field is a whole number.")
         self.assertFalse(self.part("ticket-send").is_enabled())
         self.shot("ticket-butterfly")
+        self.resize(TELEPHONE)
+        self.set("ticket", Kind="bundle of four")
+        self.assertIn("bundle,101,1,buy,6,1,4", self.text("ticket-line"))
+        self.shot("telephone-ticket-bundle")
 
     def test_a_closed_market(self) -> None:
         self.say(operator="market,3,1", ana="buy,101,3,call,10,1,1,1")
@@ -229,7 +240,12 @@ class TradingPage(Trading):
         self.shot("implied")
         self.part("strike-range").send_keys(Keys.ARROW_RIGHT)
         self.until(lambda: "asked at 8" in self.text("implied"))
-        self.assertEqual(self.field("market", "Strike").get_attribute("value"), "13")
+        strike = self.field("market", "Strike")
+        self.assertEqual(strike.get_attribute("value"), "13")
+        strike.send_keys(Keys.BACKSPACE * 2)
+        self.assertEqual(self.text("implied"), "Each field is a whole number.")
+        strike.send_keys("13")
+        self.until(lambda: "asked at 8" in self.text("implied"))
 
     def depth(self, part: str) -> Any:
         return self.part("depth").find_elements(By.CSS_SELECTOR, f'[data-part="{part}"]')
@@ -248,6 +264,7 @@ class TradingPage(Trading):
         self.set("ticket", Kind="put", Side="sell")
         self.set("ticket", Strike="12", Limit_price="6", Quantity="3")
         self.until(lambda: "2 of 3 would be filled" in self.text("ticket-try"))
+        self.until(lambda: self.text("ticket-need") != "")
         told = self.text("ticket-need")
         self.shot("ticket-need")
         self.part("ticket-send").click()
@@ -296,6 +313,33 @@ class TradingPage(Trading):
         history = self.visitor("ana").get("/history")["lines"]
         self.assertEqual([it["line"] for it in history].count("withdraw,111,3"), 1)
 
+    def test_no_follower(self) -> None:
+        """What all may see is shown all the same, and that the rest may be old."""
+        self.say(operator="market,8,1")
+        self.kill("follower")
+        self.addCleanup(self.start, "follower")
+        self.say(ana="withdraw,111,1")
+        self.enter("ana")
+        self.choose(self.place_of(8))
+        self.until(lambda: "There are none." in self.text("book"))
+        self.say(eva="sell,103,8,put,12,6,2,1")
+        self.until(lambda: "put 12" in self.text("book"))
+        self.view("account")
+        self.assertNotIn("you hold nothing", self.text("positions"))
+        self.until(lambda: "no follower answers" in self.text("line-state"))
+        self.start("follower")
+        self.until(lambda: self.text("line-state") == "connected")
+        self.until(lambda: "you hold nothing" in self.text("positions"))
+
+    def test_two_clicks_log_in_once(self) -> None:
+        self.login("ana", "")
+        self.part("password").send_keys(SECRET)
+        button = "document.querySelector('#login-form button')"
+        self.browser.execute_script(f"{button}.click(); {button}.click()")
+        self.until(lambda: "live orders" in self.text("market"))
+        time.sleep(1)
+        self.assertEqual(len(self.browser.find_elements(By.ID, "book")), 1)
+
     def test_keys_alone(self) -> None:
         pressed = ActionChains(self.browser)
         self.enter("ana")
@@ -327,18 +371,68 @@ class TradingPage(Trading):
         self.view("account")
         self.kill("gateway")
         self.until(lambda: self.text("line-state").startswith("connection lost"))
-        self.set_in("Withdraw", "Account", "111")
-        self.set_in("Withdraw", "Ticks", "7")
-        self.press("account", "Withdraw")
-        self.until(lambda: "counts once" in self.text("told"))
+        for line in ("withdraw,111,7", "withdraw,111,9"):
+            self.set_in("Withdraw", "Account", "111")
+            self.set_in("Withdraw", "Ticks", line[-1])
+            self.press("account", "Withdraw")
+            self.until(lambda: f"{line}: no answer yet" in self.text("told"))
+        self.assertIn("counts once", self.text("told"))
         self.shot("lost")
         self.browser.refresh()
         self.start("gateway")
         self.browser.get(f"http://127.0.0.1:{self.port}/#account")
-        self.until(lambda: self.text("told") == "✓ withdraw,111,7: withdrawn.")
+        self.until(lambda: self.text("told") == "✓ withdraw,111,9: withdrawn.")
         self.until(lambda: self.text("line-state") == "connected")
-        history = self.visitor("ana").get("/history")["lines"]
-        self.assertEqual([it["line"] for it in history].count("withdraw,111,7"), 1)
+        history = [it["line"] for it in self.visitor("ana").get("/history")["lines"]]
+        told = [history.count(line) for line in ("withdraw,111,7", "withdraw,111,9")]
+        self.assertEqual(told, [1, 1])
+
+    def test_a_login_that_ends(self) -> None:
+        """By another password: the page asks for a login, and does not wait for a connection."""
+        self.enter("ben")
+        Members(self.folder / FILE).change("ben", SECRET)
+        self.browser.find_element(By.XPATH, "//button[text()='Log out']").click()
+        self.until(lambda: bool(self.part("login").is_displayed()))
+        self.enter("ben")
+        Members(self.folder / FILE).change("ben", SECRET)
+        self.say(ana="withdraw,111,1")
+        self.until(lambda: bool(self.part("login").is_displayed()))
+
+    def test_what_a_reader_set_stays(self) -> None:
+        """Whatever others do meanwhile: tables stay unfolded, and a link has the focus."""
+        self.say(operator="market,9,1", eva="sell,103,9,put,12,6,2,1")
+        self.say(operator="clear,9,100 clear,9,100")
+        self.say(eva="sell,103,9,put,12,6,2,1")
+        self.enter("ana")
+        self.choose(self.place_of(9))
+        self.until(lambda: "put 12" in self.text("book") and bool(self.depth("buy-7")))
+        unfold = "document.querySelectorAll('#market details').forEach(it => it.open = true)"
+        self.browser.execute_script(unfold)
+        self.say(ana="buy,111,9,put,11,1,1,1")
+        self.until(lambda: "★ mine: 111" in self.text("book"))
+        time.sleep(1)
+        tables = self.part("market").find_elements(By.TAG_NAME, "details")
+        self.assertEqual([it.get_attribute("open") for it in tables], ["true", "true"])
+        self.view("batches")
+        link = self.browser.find_element(By.CSS_SELECTOR, "#batch-list a")
+        told = link.text
+        self.browser.execute_script("arguments[0].focus()", link)
+        self.say(operator="clear,9,100")
+        second = "#batch-list tbody tr:nth-child(2) a"
+        self.until(lambda: bool(self.browser.find_element(By.CSS_SELECTOR, second).text == told))
+        self.assertEqual(self.browser.switch_to.active_element.text, told)
+
+    def test_a_batch_that_is_not_told(self) -> None:
+        """Why is said: nobody is logged in, or there is none such."""
+        place = f"http://127.0.0.1:{self.port}/batch.html#99999"
+        self.enter("ana")
+        self.browser.get(place)
+        told = "Batch 99999 is not read: the answer has status 404."
+        self.until(lambda: self.text("told") == told)
+        self.browser.execute_cdp_cmd("Network.clearBrowserCookies", {})
+        self.browser.refresh()
+        self.until(lambda: self.text("told") == "Batch 99999 is not read: log in first.")
+        self.assertFalse(self.part("facts").is_displayed())
 
     def test_a_wrong_password(self) -> None:
         self.login("ben", "wrong")

@@ -15,6 +15,13 @@ from typing import Any
 from tests import TOP, WEB, wants
 from tests.trading import IS_SKIPPED, PROGRAM, WHY, Visitor, free_port, wait_for
 
+if not IS_SKIPPED:
+    sys.path.insert(0, str(TOP / "python"))
+    from ragvismo_gateway.setting import EMPTY, Person, Step
+    from ragvismo_gateway.up import Exchange
+    from ragvismo_service.places import Place
+    from ragvismo_service.statuses import BadUse
+
 
 def heed_interrupts() -> None:
     """Ctrl-C counts, also where the tests run in the background of a shell, which ignores it."""
@@ -81,6 +88,30 @@ class Up(unittest.TestCase):
         self.assertEqual(ana.get("/balance/101")["balance"], "600")
         self.assertEqual(len(ana.get("/book/1")["orders"]), 6)
         self.end(process)
+        setting["timetable"] = [{"at": 1, "line": "settle,1,8"}]
+        ran = self.refused(setting)
+        self.assertIn("began with another experiment", ran.stderr.splitlines()[-1])
+
+    def refused(self, setting: Any) -> subprocess.CompletedProcess[str]:
+        """A call with a setting that it does not take."""
+        path = self.folder / "setting.json"
+        path.write_text(json.dumps(setting))
+        words = [str(WEB / "up"), str(self.folder / "all"), "--program", str(PROGRAM)]
+        words += ["--port", str(self.port), "--redis", str(self.redis)]
+        words += ["--experiment", str(path)]
+        ran = subprocess.run(words, capture_output=True, text=True)
+        self.assertEqual(ran.returncode, 2, ran.stderr)
+        return ran
+
+    def test_a_folder_has_one_setting(self) -> None:
+        """Its members and its timetable are not those of another one."""
+        exchange = Exchange(self.folder, Place(), 1, PROGRAM)
+        first = EMPTY._replace(markets=[(1, 1)], members=[Person("ana", 1, 100, [])])
+        for auctions in (0.0, 60.0):
+            exchange.check_same(first._replace(auctions=auctions))
+        for other in (EMPTY, first._replace(timetable=[Step(1.0, "settle,1,8")])):
+            with self.assertRaises(BadUse):
+                exchange.check_same(other)
 
     @wants(modules=("pandas",))
     def test_an_experiment(self) -> None:
@@ -106,9 +137,4 @@ class Up(unittest.TestCase):
 
     def test_what_tells_no_exchange(self) -> None:
         for setting in ([], {"market": []}, {"members": [{"name": "<b>", "account": 1}]}):
-            path = self.folder / "setting.json"
-            path.write_text(json.dumps(setting))
-            words = [str(WEB / "up"), str(self.folder / "all"), "--program", str(PROGRAM)]
-            words += ["--experiment", str(path)]
-            ran = subprocess.run(words, capture_output=True, text=True)
-            self.assertEqual((ran.returncode, ran.stderr.count("\n")), (2, 1), ran.stderr)
+            self.assertEqual(self.refused(setting).stderr.count("\n"), 1)

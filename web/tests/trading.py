@@ -57,6 +57,8 @@ class Visitor:
 
     def __init__(self, port: int) -> None:
         self.port, self.cookie = port, ""
+        # What is sent with a request for a WebSocket beside the cookie.
+        self.headers: dict[str, str] = {}
         self.origin = f"http://127.0.0.1:{port}"
 
     def ask(self, method: str, path: str, body: Any = None, **headers: str) -> Reply:
@@ -90,7 +92,8 @@ class Visitor:
         """What comes of a talk over a WebSocket."""
 
         async def run() -> Told:
-            headers = {"Origin": self.origin, "Cookie": self.cookie}
+            headers = {"Origin": self.origin, "Cookie": self.cookie, **self.headers}
+            headers = {name: value for name, value in headers.items() if value}
             async with aiohttp.ClientSession() as session:
                 url = f"http://127.0.0.1:{self.port}{path}"
                 async with session.ws_connect(url, headers=headers) as talked:

@@ -4,8 +4,8 @@ use Rattle.std.specs.Prelude.{nat_le, if◌then◌else◌}
 use Rattle.std.specs.List.{sum}
 use Rattle.std.proofs.lemmas.Int.{ints}
 use Rattle.std.proofs.lemmas.List.Sums.{sum_by-cons}
+use Rattle.std.proofs.lemmas.List.Elements.{All-head, All-tail}
 use Rattle.arithmetic.specs.Sums.{total}
-use Rattle.arithmetic.proofs.Sums.{All-head, All-tail}
 use Rattle.arithmetic.proofs.Tests.{int_le-yes}
 use Rattle.frac.specs.Range.{limit as largest}
 use Rattle.account_need.specs.declared.need.NoNeed.{NoNeed}

@@ -5,7 +5,7 @@ use Rattle.std.proofs.lemmas.Bool.{le-leb, lt-leb}
 use Rattle.frac.specs.Range.{limit as largest}
 use Rattle.account_need.specs.declared.need.NoNeed.{NoNeed}
 use Rattle.account_need.specs.declared.need.NoNeed.TheVariants.{Sum}
-use Rattle.account_need.specs.Account.{Need, bound_of, need_from, on_amount, on_bound}
+use Rattle.account_need.specs.Account.{bound_of, need_from, on_amount, on_bound}
 use Rattle.account_need.specs.Exposure.{Portfolio, asked_by, asked_for}
 use Rattle.account_need.specs.Given.{Asked, asked_by_bound, asked_in}
 use Rattle.account_need.specs.Rounded.{summed}
@@ -20,9 +20,6 @@ units_in (Ok found) = found.1
 units_in (Err word) = 0
 
 module _ (so_far spent : ℕ) (p : Portfolio) (rest : List Portfolio) where
-  after : Bounded → Need
-  after b = on_bound b (λ S later. on_amount (so_far + asked_for p.live (length p.positions) S) (λ amount. need_from amount later rest))
-
   -- a market that asks so much
   goes : (asked later : ℕ) → Ok (asked, later) ≡ asked_in spent p → need_from so_far spent (p ∷ rest) ≡ on_amount (so_far + asked) (λ amount. need_from amount later rest)
   goes asked later e = by (bound_of p.underlyings spent (summed p)) e

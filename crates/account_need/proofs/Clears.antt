@@ -4,7 +4,7 @@ use Rattle.std.proofs.Common.{◌≡◌, ℕ, ◌+◌, ◌*◌, ◌/◌, ◌<◌
 use Rattle.std.specs.Int.{◌∣◌, div_ceil}
 use Rattle.std.proofs.lemmas.Int.{ints}
 use Rattle.std.proofs.lemmas.List.{length-map}
-use Rattle.std.proofs.lemmas.List.Elements.{All-cons, All-nil}
+use Rattle.std.proofs.lemmas.List.Elements.{All-cons, All-head, All-nil, All-tail}
 use Rattle.std.proofs.lemmas.List.Filters.{length-filter_both}
 use mathlib.Core.Bool.{not}
 use Rattle.std.proofs.Math.Nat.{mul-le-mul_right}
@@ -13,7 +13,6 @@ use Rattle.arithmetic.specs.Sums.{positive_part}
 use Rattle.arithmetic.proofs.Integers.{*ℤ_mono}
 use Rattle.arithmetic.proofs.Parts.{positive_part_above, positive_part_least}
 use Rattle.arithmetic.proofs.Products.{products}
-use Rattle.arithmetic.proofs.Sums.{All-head, All-tail}
 use Rattle.exact_num.specs.Fraction.{Fraction}
 use Rattle.exact_num.specs.CommonDenominator.{amount_over}
 use Rattle.form.specs.declared.orders.Order.{Order}
@@ -141,9 +140,6 @@ all_paid_for (fill ∷ fills) filled =
     omega (arith, paid_for_fill fill (All-head IsFilled fill fills filled), all_paid_for fills (All-tail IsFilled fill fills filled))
 
 -- ---- the new positions
-side_of : Held → Side
-side_of held = held.0
-
 -- a position of a fill owes what its order does
 owes_as : (D : ℕ) (z : List ℕ) (p : Position) (fill : OrderFill) → held_of p ≡ held_by fill
     → owed_by p.side (bundle_payoff (bundle_legs p.bundle) z *ℤ amount_over D (fill_of p))

@@ -1,18 +1,18 @@
 -- On one underlying no state of the box is exposed to more than the greatest exposure: between two
 -- states between which no payoff bends, what is owed is linear, and what may be lost convex.
-use Rattle.std.proofs.Common.{◌≡◌, ℕ, zero, suc, ◌+◌, ◌-◌, ◌*◌, ◌≤◌, Bool, true, false, not, ◌&&◌, cond, List, [], ◌∷◌, ◌++◌, map, filter, nat_abs, arith, ℤ, pos, negsuc, ◌+ℤ◌, ◌*ℤ◌, ◌≤ℤ◌, ◌<ℤ◌, inl, inr, refl, ap, subst, ◌∙◌}
+use Rattle.std.proofs.Common.{◌≡◌, ℕ, zero, suc, ◌+◌, ◌-◌, ◌*◌, ◌≤◌, Bool, true, false, not, ◌&&◌, cond, List, [], ◌∷◌, ◌++◌, map, filter, nat_abs, arith, ℤ, pos, negsuc, ◌+ℤ◌, ◌*ℤ◌, ◌≤ℤ◌, ◌<ℤ◌, refl, ap, ◌∙◌}
 use Rattle.std.specs.Prelude.{nat_le, int_lt}
 use Rattle.std.specs.List.{flat_map}
-use Rattle.std.proofs.lemmas.Bool.{and_parts, le-leb, leb-true}
+use Rattle.std.proofs.lemmas.Bool.{and_parts, le-leb, leb-true, not-false}
 use Rattle.std.proofs.lemmas.Bool.Decides.{Decides-int_eq}
 use Rattle.std.proofs.lemmas.Int.{ints}
+use Rattle.std.proofs.lemmas.List.Elements.{All-head}
 use native.Mathlib.Nat.{mul-le-mul_left}
 use Rattle.arithmetic.specs.Sums.{positive_part}
 use Rattle.arithmetic.proofs.Integers.{*ℤ_mono, *ℤ_cancel_le}
-use Rattle.arithmetic.proofs.Parts.{part_above, part_below, positive_part_above, positive_part_least}
+use Rattle.arithmetic.proofs.Parts.{positive_part_above, positive_part_least}
 use Rattle.arithmetic.proofs.Products.{products}
-use Rattle.arithmetic.proofs.Sums.{All-head}
-use Rattle.arithmetic.proofs.Tests.{int_lt-no, int_lt-yes}
+use Rattle.arithmetic.proofs.Tests.{int_lt-no, int_lt-true, int_lt-yes}
 use Rattle.exact_num.specs.Fraction.{Fraction, AtMost, IsDefined}
 use Rattle.form.specs.declared.orders.Order.{Order}
 use Rattle.form.specs.declared.orders.Side.{Side}
@@ -30,7 +30,7 @@ use Rattle.account_need.specs.Prices.{is_due, turning_in, turning_live, turning_
 use Rattle.account_need.specs.Several.{counts_once, has_plain_legs, if_buy_then, if_sell, is_by_itself}
 use Rattle.account_need.proofs.Greatest.{none_above}
 use Rattle.account_need.proofs.PlainBuys.{plain_loses}
-use Rattle.market_laws.proofs.Line.{Agree, Each, at}
+use Rattle.market_laws.proofs.Line.{Each, at, part_combined}
 use Rattle.account_need.proofs.Narrow.{AgreesAt, Between, HoldsAtBend, IsOfDirections, agree_all, dot-pair}
 
 -- ---- multiples of a state
@@ -68,16 +68,6 @@ each_parts P (x ∷ xs) ys h =
     let rest = each_parts P xs ys h.1 in
     ((h.0, rest.0), rest.1)
 
-part_linear : (x y : ℤ) (i j : ℕ) → Agree x y → positive_part ((x *ℤ pos i) +ℤ (y *ℤ pos j)) ≡ i * positive_part x + j * positive_part y
-part_linear x y i j (inl h) =
-    let a = part_above x h.0 in
-    let b = part_above y h.1 in
-    subst (λ (w : ℤ). positive_part ((w *ℤ pos i) +ℤ (y *ℤ pos j)) ≡ i * positive_part x + j * positive_part y) a
-    (subst (λ (w : ℤ). positive_part ((pos (positive_part x) *ℤ pos i) +ℤ (w *ℤ pos j)) ≡ i * positive_part x + j * positive_part y) b (omega arith))
-part_linear x y i j (inr h) =
-    let e = part_below ((x *ℤ pos i) +ℤ (y *ℤ pos j)) (omega (arith, ints, *ℤ_mono i x (pos 0) h.0, *ℤ_mono j y (pos 0) h.1)) in
-    omega (arith, e, ap (λ n. i * n) (part_below x h.0), ap (λ n. j * n) (part_below y h.1))
-
 part_convex : (c x y : ℤ) (k i j : ℕ) → (c *ℤ pos k) ≤ℤ ((x *ℤ pos i) +ℤ (y *ℤ pos j)) → k * positive_part c ≤ i * positive_part x + j * positive_part y
 part_convex c x y k i j le =
     let most = positive_part_least (c *ℤ pos k) (i * positive_part x + j * positive_part y) (omega (arith, ints, le, *ℤ_mono i x (pos (positive_part x)) (positive_part_above x), *ℤ_mono j y (pos (positive_part y)) (positive_part_above y))) in
@@ -108,7 +98,7 @@ module _ (t s p q p' q' k i j : ℕ) (first : k * t ≡ i * p + j * p') (second 
       let a = strike_entry v in
       let b = weight_entry v in
       let scaled = part-scale (at a b t s) k in
-      let linear = ap positive_part (at_between a b) ∙ part_linear (at a b p q) (at a b p' q') i j agrees in
+      let linear = ap positive_part (at_between a b) ∙ part_combined (at a b p q) (at a b p' q') i j agrees in
       rw (dot-pair v t s, dot-pair v p q, dot-pair v p' q') (omega (arith, scaled, linear))
 
   -- wherever an option bends, it bends up
@@ -173,12 +163,8 @@ module _ (t s p q p' q' k i j : ℕ) (first : k * t ≡ i * p + j * p') (second 
 
   plain_between : (side : Side) (price : ℕ) (legs : List BundleLeg) → (not (if_sell side (counts_once legs)) && not (if_buy_then side (has_plain_legs legs))) ≡ false → Loses side price legs
   plain_between Buy price legs e =
-      let none = plain_loses Buy legs (price * t) z0 (double_not (has_plain_legs legs) e) in
+      let none = plain_loses Buy legs (price * t) z0 (not-false (has_plain_legs legs) e) in
       omega (arith, ap (λ (n : ℕ). k * n) none)
-    where
-      double_not : (b : Bool) → not b ≡ false → b ≡ true
-      double_not true e = refl
-      double_not false e = absurd (cc)
   plain_between Sell price legs e = single_between price legs (single (counts_once legs) e)
     where
       single : (b : Bool) → (not b && true) ≡ false → b ≡ true
@@ -226,16 +212,9 @@ bends_scale v e = abs_some (strike_entry v) (weight_entry v) (bends_parts v e).0
 
 pub bends_so : (v : List ℤ) → (strike_entry v *ℤ weight_entry v) <ℤ pos 0 → nat_abs (strike_entry v) ≤ MAX_SETTLEMENT_PRICE * nat_abs (weight_entry v) → bends v ≡ true
 bends_so v signs inside =
-    let a : int_lt (strike_entry v *ℤ weight_entry v) (pos 0) ≡ true = int_lt_so (strike_entry v *ℤ weight_entry v) (pos 0) signs in
+    let a : int_lt (strike_entry v *ℤ weight_entry v) (pos 0) ≡ true = int_lt-true (strike_entry v *ℤ weight_entry v) (pos 0) signs in
     let b = le-leb (nat_abs (strike_entry v)) (MAX_SETTLEMENT_PRICE * nat_abs (weight_entry v)) inside in
     rw (a, b) refl
-  where
-    int_lt_so : (x y : ℤ) → x <ℤ y → int_lt x y ≡ true
-    int_lt_so x y lt = go (int_lt x y) refl
-      where
-        go : (b : Bool) → int_lt x y ≡ b → int_lt x y ≡ true
-        go true h = h
-        go false h = absurd (omega (arith, ints, lt, int_lt-no x y h))
 
 -- what holds of all options holds of those where the exposure may be greatest
 module _ (P : List ℤ → Type 0) where

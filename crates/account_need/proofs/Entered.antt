@@ -1,17 +1,14 @@
 -- The entries of a run: their fills, their bundles, and what the code may ask of them.
 use Rattle.std.proofs.Common.{◌≡◌, ◌≢◌, ℕ, zero, suc, ◌+◌, ◌-◌, ◌*◌, ◌/◌, ◌<◌, ◌≤◌, ◌^◌, ◌++◌, true, List, [], ◌∷◌, length, map, filter, take, replicate, set, length-append, append_assoc, All, arith, sum, ℤ, pos, ◌*ℤ◌, ◌≤ℤ◌, unsigned_abs, int_div, Ok, Err, refl, ap, sym, subst, ◌∙◌}
-use Rattle.std.proofs.Math.Nat.{div-le_self, mul-le-mul_right}
-use Rattle.std.proofs.lemmas.Bool.{le-leb}
-use Rattle.std.proofs.lemmas.Int.{ints, unsigned_abs-mul}
-use native.Mathlib.Nat.{mul-le-mul_left}
+use Rattle.std.proofs.Math.Nat.{div-le_self}
+use Rattle.std.proofs.lemmas.Bool.{and_from, le-leb}
+use Rattle.std.proofs.lemmas.Int.{ints}
 use Rattle.std.proofs.lemmas.List.{length-replicate, replicate-append-replicate, set_at, take_at}
-use Rattle.std.proofs.lemmas.List.Elements.{All-append, All-cons, All-filter, All-nil}
+use Rattle.std.proofs.lemmas.List.Elements.{All-append, All-cons, All-filter, All-head, All-nil, All-tail}
 use Rattle.arithmetic.specs.Gcd.{gcd}
-use Rattle.arithmetic.proofs.Integers.{*ℤ_cancel_le, *ℤ_mono}
+use Rattle.arithmetic.proofs.Integers.{*ℤ_cancel_le, *ℤ_mono, size_of_product}
 use Rattle.arithmetic.proofs.Products.{products}
 use Rattle.arithmetic.proofs.Quotients.{unsigned_abs-int_div}
-use Rattle.arithmetic.proofs.Sums.{All-head, All-tail}
-use Rattle.arithmetic.proofs.Tests.{and_true}
 use Rattle.exact_num.specs.declared.misfit.Wide.{Wide}
 use Rattle.exact_num.specs.Fraction.{AtMost, Fraction, IsLowest, plain_product, reduced, whole}
 use Rattle.exact_num.specs.Fits.{div_of, inverse, product_above, product_below, product_fits, product_value}
@@ -55,9 +52,6 @@ fraction_is f low above below =
 unit_inverse : Fraction
 unit_inverse = inverse (whole (pos unit))
 
-product_small : (a b : ℤ) (m n : ℕ) → unsigned_abs a ≤ m → unsigned_abs b ≤ n → unsigned_abs (a *ℤ b) ≤ m * n
-product_small a b m n ha hb = omega (arith, unsigned_abs-mul a b, mul-le-mul_left (unsigned_abs a) hb, mul-le-mul_right n ha)
-
 quotient_fits : (k : ℕ) → k ≤ limit → product_fits limit (whole (pos k)) unit_inverse ≡ true
 unfolding product_fits product_above product_below inverse unit_inverse
 quotient_fits k le =
@@ -65,8 +59,8 @@ quotient_fits k le =
     let h = gcd 1 1 in
     let above : unsigned_abs (int_div (pos k) (pos g)) ≤ k = rw (unsigned_abs-int_div (pos k) g) (div-le_self k g) in
     let one : unsigned_abs (int_div (pos 1) (pos h)) ≤ 1 = rw (unsigned_abs-int_div (pos 1) h) (div-le_self 1 h) in
-    let size = product_small (int_div (pos k) (pos g)) (int_div (pos 1) (pos h)) k 1 above one in
-    and_true _ _ (le-leb _ limit (omega (arith, size, le))) (le-leb _ limit (below (1 / h) (unit / g) (div-le_self 1 h) (div-le_self unit g)))
+    let size = size_of_product (int_div (pos k) (pos g)) (int_div (pos 1) (pos h)) k 1 above one in
+    and_from _ _ (le-leb _ limit (omega (arith, size, le))) (le-leb _ limit (below (1 / h) (unit / g) (div-le_self 1 h) (div-le_self unit g)))
   where
     below : (a b : ℕ) → a ≤ 1 → b ≤ unit → a * b ≤ limit
     below zero b ha hb = omega arith

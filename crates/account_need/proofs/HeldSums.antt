@@ -1,7 +1,6 @@
 -- Options and sums of positions, one more at a time.
 use Rattle.std.proofs.Common.{◌≡◌, ℕ, ◌+◌, ◌<◌, ◌≤◌, Bool, true, false, cond, List, [], ◌∷◌, ◌++◌, length, map, filter, take, get_or, ℤ, pos, ◌+ℤ◌, ◌*ℤ◌, append_assoc, arith, refl, ap, sym, ◌∙◌}
 use mathlib.Core.Bool.{not}
-use Rattle.std.specs.Prelude.{◌||◌}
 use Rattle.std.specs.Int.{div_ceil}
 use Rattle.std.specs.List.{flat_map}
 use Rattle.std.specs.Ordering.{int_eq}
@@ -11,6 +10,7 @@ use Rattle.std.proofs.lemmas.Int.{ints}
 use Rattle.std.proofs.lemmas.List.{append-nil, take_more}
 use Rattle.std.proofs.lemmas.List.Elements.{filter-append}
 use Rattle.std.proofs.lemmas.List.Folds.{list_any-append}
+use Rattle.std.proofs.lemmas.Bool.{or_parts}
 use Rattle.arithmetic.specs.Sums.{total}
 use Rattle.arithmetic.proofs.Products.{products}
 use Rattle.form.specs.declared.orders.Side.{Side}
@@ -47,14 +47,11 @@ options_back ps [] = refl
 options_back ps (v ∷ options) = ap (λ (xs : List (List ℤ)). v ∷ xs) (options_back ps options)
 
 -- ---- positions that have none of an option
-neither : (a b : Bool) → (a || b) ≡ false → (a ≡ false) × (b ≡ false)
-neither true b e = cc
-neither false b e = (refl, e)
 
 none_counted : (v : List ℤ) (legs : List BundleLeg) → has (options_of legs) v ≡ false → count_of v legs ≡ pos 0
 none_counted v [] none = refl
 none_counted v (leg ∷ legs) none =
-    let parts = neither (is_same_option leg.option v) (has (options_of legs) v) none in
+    let parts = or_parts (is_same_option leg.option v) (has (options_of legs) v) none in
     (λ j. count_if (parts.0 j) leg.count +ℤ none_counted v legs parts.1 j)
 
 ceil_none : (d : ℕ) → 0 < d → ceil_of (pos 0) d ≡ pos 0
@@ -91,7 +88,7 @@ owed_from_here : (v : List ℤ) (before left : List Position) → has (options_a
 owed_from_here v [] left none = refl
 owed_from_here v (p ∷ before) left none =
     let here = options_of (bundle_legs p.bundle) in
-    let parts = neither (has here v) (has (options_at before) v) (sym (list_any-append (λ w. is_same_option w v) here (options_at before)) ∙ none) in
+    let parts = or_parts (has here v) (has (options_at before) v) (sym (list_any-append (λ w. is_same_option w v) here (options_at before)) ∙ none) in
     let none_here = none_owed v p (none_counted v (bundle_legs p.bundle) parts.0) in
     (λ j. none_here j +ℤ owed_from_here v before left parts.1 j) ∙ none_more (total (part_owed v) left)
 
@@ -103,7 +100,7 @@ pub sum_from_here : (v : List ℤ) (before left : List Position) (more : List (L
     → summed_as v s ≡ sum_of (before ++ left) v
 sum_from_here v before left more s none is =
     let all : has (options_at before ++ more) v ≡ false = sym (has_once (options_at before ++ more) v) ∙ none in
-    let parts = neither (has (options_at before) v) (has more v) (sym (list_any-append (λ w. is_same_option w v) (options_at before) more) ∙ all) in
+    let parts = or_parts (has (options_at before) v) (has more v) (sym (list_any-append (λ w. is_same_option w v) (options_at before) more) ∙ all) in
     let e = is ∙ sym (owed_from_here v before left parts.0) in
     ap (summed_as v) e
 

@@ -7,12 +7,12 @@ use Rattle.std.proofs.lemmas.Int.{ints, int_max_is}
 use Rattle.std.proofs.lemmas.List.{length-map}
 use Rattle.arithmetic.proofs.Lists.{drop_map, item_of}
 use Rattle.exact_num.specs.Fraction.{AtMost, Fraction, IsDefined, whole}
-use Rattle.exact_num.specs.Tests.{is_at_most}
+use Rattle.exact_num.specs.Tests.{greater_of, is_at_most}
 use Rattle.form.specs.Payoff.{scale_of}
 use Rattle.portfolio_margin.specs.Need.{ceil_of}
 use Rattle.portfolio_margin.proofs.Rounded.{liabilities_are_rounded_up}
 use Rattle.account_need.specs.Rounded.{Summed}
-use Rattle.account_need.specs.Line.{bend_of, bends, bends_in, exposure_at, greatest, highest_state, larger, line_bound, lowest_state, options_in}
+use Rattle.account_need.specs.Line.{bend_of, bends, bends_in, exposure_at, greatest, highest_state, line_bound, lowest_state, options_in}
 use Rattle.account_need.specs.declared.price.Price.{Price}
 use Rattle.account_need.specs.Prices.{bend_within, bound_at, price_vector, with_bend, with_bends}
 use Rattle.account_need.proofs.Convex.{bends_scale}
@@ -37,13 +37,13 @@ max_right a b le = omega (arith, ints, int_max_is a b)
 max_assoc : (a b c : ℤ) → int_max a (int_max b c) ≡ int_max (int_max a b) c
 max_assoc a b c = omega (arith, ints, int_max_is a b, int_max_is b c, int_max_is a (int_max b c), int_max_is (int_max a b) c)
 
-ceil_larger : (x y : Fraction) → IsDefined x → IsDefined y → ceil (larger x y) ≡ int_max (ceil x) (ceil y)
+ceil_larger : (x y : Fraction) → IsDefined x → IsDefined y → ceil (greater_of x y) ≡ int_max (ceil x) (ceil y)
 ceil_larger x y dx dy = by (is_at_most x y) refl
   where
     by : (b : Bool) → is_at_most x y ≡ b → ceil (if b then y else x) ≡ int_max (ceil x) (ceil y)
     by true e = max_right (ceil x) (ceil y) (ceil_mono x y dx dy (subst (λ (g : Fraction). AtMost x g) (at_true e) (above_both x y).0))
       where
-        at_true : is_at_most x y ≡ true → larger x y ≡ y
+        at_true : is_at_most x y ≡ true → greater_of x y ≡ y
         at_true e = ap (λ (b : Bool). if b then y else x) e
     by false e = max_left (ceil x) (ceil y) (ceil_mono y x dy dx (subst (λ (g : Fraction). AtMost y g) (ap (λ (b : Bool). if b then y else x) e) (above_both x y).1))
 
@@ -113,18 +113,9 @@ with_bends-append p best [] ys = refl
 with_bends-append p best (v ∷ xs) ys = with_bends-append p (with_bend p best v) xs ys
 
 -- ---- one option more
-bends_none : (v : List ℤ) (b : Bool) → None ≡ (if b then Some (bend_of v) else None) → b ≡ false
-bends_none v true e = cc
-bends_none v false e = refl
-
 bends_some : (v : List ℤ) (z : List ℕ) (b : Bool) → Some z ≡ (if b then Some (bend_of v) else None) → (b ≡ true) × (z ≡ bend_of v)
 bends_some v z true e = (refl, cc)
 bends_some v z false e = cc
-
-pub no_bend : (p : Summed) (best : ℤ) (v : List ℤ) (found : Option Price) → option_map price_vector found ≡ bend_within v → found ≡ None → best ≡ with_bend p best v
-no_bend p best v found is none =
-    let e : bends v ≡ false = bends_none v (bends v) (ap (option_map price_vector) (sym none) ∙ is) in
-    rw e refl
 
 pub one_bend : (p : Summed) (best x : ℤ) (v : List ℤ) (found : Option Price) (at : Price) → option_map price_vector found ≡ bend_within v → found ≡ Some at → x ≡ bound_at p (price_vector at)
     → int_max best x ≡ with_bend p best v

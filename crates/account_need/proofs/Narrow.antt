@@ -7,7 +7,7 @@ use Rattle.std.proofs.lemmas.Bool.{cases_lt}
 use native.Mathlib.Nat.{mul-le-mul_left, le_of_mul-le-mul_left}
 use Rattle.form.specs.Vector.{dot, strike_entry}
 use Rattle.clearing_model.specs.Line.{weight_entry}
-use Rattle.market_laws.proofs.Line.{Agree, Each, agree_left, agree_right, at, at_combined, each_then, middle_is, on_break, opposite}
+use Rattle.market_laws.proofs.Line.{Agree, Each, agree_left, agree_right, agree_swap, at, at_combined, each_then, middle_is, on_break, opposite}
 use Rattle.limits.specs.declared.TheConstants.{MAX_SETTLEMENT_PRICE}
 
 pub dot-pair : (v : List ℤ) (t s : ℕ) → dot v (t ∷ s ∷ []) ≡ at (strike_entry v) (weight_entry v) t s
@@ -15,10 +15,6 @@ dot-pair [] t s = omega (arith, ints)
 dot-pair (a ∷ []) t s = omega (arith, ints)
 dot-pair (a ∷ b ∷ []) t s = omega (arith, ints)
 dot-pair (a ∷ b ∷ c ∷ v) t s = omega (arith, ints)
-
-agree_swap : {x y : ℤ} → Agree x y → Agree y x
-agree_swap (inl h) = inl (h.1, h.0)
-agree_swap (inr h) = inr (h.1, h.0)
 
 abbrev pub AgreesAt : ℕ → ℕ → ℕ → ℕ → List ℤ → Type 0
 AgreesAt t s t' s' v = Agree (at (strike_entry v) (weight_entry v) t s) (at (strike_entry v) (weight_entry v) t' s')

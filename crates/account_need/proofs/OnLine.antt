@@ -1,9 +1,8 @@
 -- Options and the legs of bundles on one underlying, as the code has them.
-use Rattle.std.proofs.Common.{◌≡◌, ℕ, ◌+◌, ◌≤◌, arith, ℤ, pos, negsuc, ◌+ℤ◌, ◌*ℤ◌, ◌≤ℤ◌, unsigned_abs}
-use Rattle.std.proofs.lemmas.Int.{ints, unsigned_abs-mul}
+use Rattle.std.proofs.Common.{ℕ, ◌≤◌, arith, ℤ, pos, ◌*ℤ◌, unsigned_abs}
+use Rattle.std.proofs.lemmas.Int.{unsigned_abs-mul}
 use native.Mathlib.Nat.{mul-le-mul_left}
 use Rattle.std.proofs.Math.Nat.{mul-le-mul_right}
-use Rattle.arithmetic.specs.Sums.{positive_part}
 
 -- the parts of what an option would pay
 pub value_small : (a b : ℤ) (t s : ℕ) → unsigned_abs a ≤ 1000000000 → unsigned_abs b ≤ 1000 → t ≤ 1000 → s ≤ 1000000000
@@ -22,8 +21,3 @@ amount_small s p hs hp =
 pub leg_small : (n : ℤ) (h : ℕ) → unsigned_abs n ≤ 1000 → h ≤ 2000000000000 → unsigned_abs (n *ℤ pos h) ≤ 2000000000000000
 leg_small n h few low =
     omega (arith, unsigned_abs-mul n (pos h), mul-le-mul_left (unsigned_abs n) low, mul-le-mul_right 2000000000000 few)
-
--- a bound and what is asked for rounding
-pub asked_is : (b : ℤ) (r : ℕ) → pos 0 ≤ℤ b → unsigned_abs b + r ≡ positive_part (b +ℤ pos r)
-asked_is (pos n) r some = omega arith
-asked_is (negsuc n) r some = absurd (omega (arith, ints, some))

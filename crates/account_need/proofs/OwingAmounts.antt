@@ -6,11 +6,11 @@ use Rattle.std.specs.Ordering.{int_eq}
 use Rattle.std.proofs.lemmas.Bool.Decides.{Decides-int_eq}
 use Rattle.std.proofs.lemmas.Int.{ints}
 use Rattle.std.proofs.lemmas.List.{length-replicate, length-append}
+use Rattle.std.proofs.lemmas.List.Elements.{All-head, All-tail}
 use Rattle.arithmetic.specs.Sums.{positive_part}
 use Rattle.arithmetic.proofs.Integers.{*ℤ_cancel, *ℤ_mono, swap_factors}
 use Rattle.arithmetic.proofs.Parts.{part_below, positive_part_is, positive_part_least}
 use Rattle.arithmetic.proofs.Products.{products}
-use Rattle.arithmetic.proofs.Sums.{All-head, All-tail}
 use Rattle.exact_num.specs.Fraction.{Fraction, IsDefined, IsNotBelowZero, reduced, whole}
 use Rattle.exact_num.specs.CommonDenominator.{IsRatio, amount_over}
 use Rattle.exact_num.proofs.Fractions.{amount_is_exact}

@@ -3,12 +3,12 @@
 use Rattle.std.proofs.Common.{◌≡◌, ℕ, ◌+◌, ◌*◌, ◌≤◌, Bool, true, false, not, ◌&&◌, cond, List, [], ◌∷◌, filter, Ok, Err, if◌then◌else◌, arith, ℤ, pos, neg_ℤ, ◌+ℤ◌, ◌*ℤ◌, ◌≤ℤ◌, unsigned_abs, refl, ap}
 use Rattle.std.specs.Prelude.{nat_le}
 use Rattle.std.proofs.lemmas.Int.{ints}
+use Rattle.std.proofs.lemmas.List.Elements.{All-head}
 use native.Mathlib.Nat.{mul-le-mul_left}
 use Rattle.arithmetic.specs.Sums.{positive_part}
 use Rattle.arithmetic.proofs.Integers.{*ℤ_cancel_le, *ℤ_mono}
 use Rattle.arithmetic.proofs.Parts.{positive_part_above, positive_part_least}
 use Rattle.arithmetic.proofs.Products.{products}
-use Rattle.arithmetic.proofs.Sums.{All-head}
 use Rattle.exact_num.specs.Fraction.{whole}
 use Rattle.exact_num.specs.CommonDenominator.{common_denominator}
 use Rattle.frac.specs.Range.{limit as largest}

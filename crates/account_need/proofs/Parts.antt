@@ -108,8 +108,3 @@ part_small v p held =
         let same = owed_size p.side (c *ℤ pos n) in
         ceil_small (owed_by p.side (c *ℤ pos n) *ℤ pos unit) d 4294967296000000 p.fill.lowest.positive (omega (arith, size, same, unsigned_abs-mul c (pos n), le))
     by (negsuc n) low few = absurd (omega (arith, ints, low))
-
--- the side's sign stands outside
-pub owed_times : (side : Side) (c x : ℤ) → owed_by side (c *ℤ x) ≡ owed_by side c *ℤ x
-owed_times Buy c x = omega (arith, ints, products)
-owed_times Sell c x = refl

@@ -6,11 +6,11 @@ use Rattle.std.specs.Ordering.{int_eq}
 use mathlib.Core.Bool.{not}
 use Rattle.std.proofs.lemmas.Bool.Decides.{Decides-int_eq}
 use Rattle.std.proofs.lemmas.Int.{ints}
+use Rattle.std.proofs.lemmas.List.Elements.{All-head, All-tail}
 use native.Mathlib.Nat.{mul-div_cancel'}
 use Rattle.arithmetic.specs.Sums.{total}
 use Rattle.arithmetic.proofs.Integers.{*ℤ_mono}
 use Rattle.arithmetic.proofs.Products.{products}
-use Rattle.arithmetic.proofs.Sums.{All-head, All-tail}
 use Rattle.exact_num.specs.Fraction.{over}
 use Rattle.exact_num.specs.CommonDenominator.{amount_over}
 use Rattle.form.specs.declared.orders.Side.{Side}
@@ -38,11 +38,6 @@ not_same u v ne = by (is_same_option u v) refl
     by : (b : Bool) → is_same_option u v ≡ b → is_same_option u v ≡ false
     by true e = absurd (ne (same_option_is u v e))
     by false e = e
-
--- once where it is one of them, and not at all where it is taken out
-unfolded : (u v : List ℤ) (options : List (List ℤ)) → times_in u (v ∷ options) ≡ one_if u v +ℤ times_in u options
-unfolding times_in
-unfolded u v options = refl
 
 taken_out : (u : List ℤ) (options : List (List ℤ)) → times_in u (filter (λ w. not (is_same_option w u)) options) ≡ pos 0
 unfolding times_in one_if

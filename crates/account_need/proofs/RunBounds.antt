@@ -1,12 +1,11 @@
 -- A run that ends with a bound: what its positions owe is at most that, at each state of the box.
 use Rattle.std.proofs.Common.{◌≡◌, ℕ, ◌-◌, ◌*◌, ◌/◌, ◌≤◌, List, ◌∷◌, Ok, Err, arith, ℤ, pos, ◌*ℤ◌, ◌≤ℤ◌, refl, ap, sym, subst}
 use Rattle.std.proofs.lemmas.Int.{ints}
-use Rattle.std.proofs.lemmas.List.Elements.{All-cons}
+use Rattle.std.proofs.lemmas.List.Elements.{All-cons, All-head, All-tail}
 use Rattle.std.proofs.lemmas.List.Sums.{sum_by-cons}
 use native.Mathlib.Nat.{mul-div_cancel'}
 use Rattle.arithmetic.proofs.Integers.{*ℤ_cancel_le, *ℤ_mono, swap_factors}
 use Rattle.arithmetic.proofs.Signed.{factor_out}
-use Rattle.arithmetic.proofs.Sums.{All-head, All-tail}
 use Rattle.exact_num.specs.Fraction.{Fraction, IsDefined, IsLowest}
 use Rattle.exact_num.specs.CommonDenominator.{amount_over, common_denominator}
 use Rattle.frac.specs.Range.{limit as largest}

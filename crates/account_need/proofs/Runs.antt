@@ -1,10 +1,10 @@
 -- Which bound a market has, by the tests of the code.
-use Rattle.std.proofs.Common.{◌≡◌, ◌≢◌, ℕ, ◌+◌, ◌<◌, ◌≤◌, ◌||◌, nat_eq, nat_lt, Bool, true, false, List, [], ◌∷◌, length, map, All, Ok, Err, arith, refl, ap, ◌∙◌}
+use Rattle.std.proofs.Common.{◌≡◌, ◌≢◌, ℕ, ◌+◌, ◌<◌, ◌≤◌, ◌||◌, nat_lt, Bool, true, false, List, [], ◌∷◌, length, map, All, Err, arith, refl, ap, ◌∙◌}
 use Rattle.std.specs.List.{list_any}
-use Rattle.std.proofs.lemmas.Bool.{eq-eqb, le-ltb, lt-ltb, ltb-false, ne_eqb}
+use Rattle.std.proofs.lemmas.Bool.{le-ltb, lt-ltb, ltb-false, ne_eqb}
 use Rattle.std.proofs.lemmas.List.{length-map}
-use Rattle.std.proofs.lemmas.List.Elements.{All-cons, All-nil}
-use Rattle.arithmetic.proofs.Sums.{All-head, All-tail}
+use Rattle.std.proofs.lemmas.List.Elements.{All-cons, All-head, All-nil, All-tail}
+use Rattle.std.proofs.Math.Bool.{or-true}
 use Rattle.form.specs.declared.limits.TheConstants.{MAX_ORDERS}
 use Rattle.form.specs.declared.orders.Order.{Order}
 use Rattle.form.specs.Limits.{IsOrderWithin}
@@ -12,7 +12,6 @@ use Rattle.account_need.specs.declared.need.NoNeed.TheVariants.{Positions}
 use Rattle.account_need.specs.declared.sums.FormSum.{FormSum}
 use Rattle.account_need.specs.Account.{bound_of, is_large}
 use Rattle.account_need.specs.Given.{IsBatched}
-use Rattle.account_need.specs.Line.{line_bound}
 use Rattle.account_need.specs.Prices.{IsOrderOn, in_code, option_sum}
 use Rattle.account_need.specs.Several.{owing_in, several_bound}
 use Rattle.account_need.proofs.Bounded.{bound_by, by_tests}
@@ -30,29 +29,12 @@ module _ (n spent positions : ℕ) (sums : List FormSum) (live : List Order) whe
   few_then : length sums + length live ≤ MAX_ORDERS → nat_lt MAX_ORDERS (length (map option_sum sums) + length live) ≡ false
   few_then few = le-ltb MAX_ORDERS _ (omega (arith, few, length-map sums option_sum))
 
-  many_then : MAX_ORDERS < length sums + length live → nat_lt MAX_ORDERS (length (map option_sum sums) + length live) ≡ true
-  many_then many = lt-ltb MAX_ORDERS _ (omega (arith, many, length-map sums option_sum))
-
-  pub bound_many : MAX_ORDERS < length sums + length live → bound_of n spent (in_code sums positions live) ≡ Err Positions
-  bound_many many =
-      let p = in_code sums positions live in
-      by_tests n spent p true (nat_eq n 1) (nat_lt MAX_ORDERS (length (owing_in n p))) (list_any is_large p.sums) (many_then many) refl refl refl
-
-  pub bound_line : n ≡ 1 → length sums + length live ≤ MAX_ORDERS → bound_of n spent (in_code sums positions live) ≡ Ok (line_bound (in_code sums positions live), spent)
-  bound_line one few =
-      let p = in_code sums positions live in
-      by_tests n spent p false true (nat_lt MAX_ORDERS (length (owing_in n p))) (list_any is_large p.sums) (few_then few) (eq-eqb n 1 one) refl refl
-
   module _ (several : n ≢ 1) (few : length sums + length live ≤ MAX_ORDERS) where
     pub bound_large : list_any is_large (map option_sum sums) ≡ true → bound_of n spent (in_code sums positions live) ≡ Err Positions
     bound_large large =
         let p = in_code sums positions live in
         by_tests n spent p false false (nat_lt MAX_ORDERS (length (owing_in n p))) true (few_then few) (ne_eqb n 1 several) refl large
-        ∙ ap (λ (b : Bool). bound_by b false n spent p) (or_true (nat_lt MAX_ORDERS (length (owing_in n p))))
-      where
-        or_true : (b : Bool) → (b || true) ≡ true
-        or_true true = refl
-        or_true false = refl
+        ∙ ap (λ (b : Bool). bound_by b false n spent p) (or-true (nat_lt MAX_ORDERS (length (owing_in n p))))
 
     pub bound_long : MAX_ORDERS < length (owing_in n (in_code sums positions live)) → bound_of n spent (in_code sums positions live) ≡ Err Positions
     bound_long long =

@@ -5,10 +5,10 @@ use Rattle.std.specs.List.{flat_map, list_any}
 use Rattle.std.proofs.lemmas.Bool.{eqb-true, ltb-false}
 use Rattle.std.proofs.lemmas.Int.{ints}
 use Rattle.std.proofs.lemmas.List.{drop_at, take_at}
-use Rattle.std.proofs.lemmas.List.Elements.{All-append, All-cons, All-drop, All-filter, All-nil, All-same, All-take, All-weaker}
+use Rattle.std.proofs.lemmas.List.Elements.{All-append, All-cons, All-drop, All-filter, All-head, All-nil, All-same, All-tail, All-take, All-weaker}
 use Rattle.arithmetic.proofs.Integers.{*ℤ_cancel_le}
 use Rattle.arithmetic.proofs.Products.{products}
-use Rattle.arithmetic.proofs.Sums.{All-head, All-of_map, All-tail, All-to_map}
+use Rattle.arithmetic.proofs.Sums.{All-of_map, All-to_map}
 use Rattle.exact_num.specs.Fraction.{Fraction, IsNotBelowZero, whole}
 use Rattle.exact_num.specs.CommonDenominator.{common_denominator}
 use Rattle.form.specs.declared.legs.Leg.{Leg}

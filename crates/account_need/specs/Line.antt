@@ -1,9 +1,9 @@
 -- The need of a market on one underlying: the greatest rounded exposure of the box is at one of its
 -- ends, or where a payoff bends.
-use Rattle.std.specs.Prelude.{ℕ, ◌*◌, ◌++◌, Bool, ◌&&◌, nat_le, int_lt, List, [], ◌∷◌, map, filter, nat_abs, ℤ, pos, ◌*ℤ◌, if◌then◌else◌}
+use Rattle.std.specs.Prelude.{ℕ, ◌*◌, ◌++◌, Bool, ◌&&◌, nat_le, int_lt, List, [], ◌∷◌, map, filter, nat_abs, ℤ, pos, ◌*ℤ◌}
 use Rattle.std.specs.List.{flat_map}
 use Rattle.exact_num.specs.Fraction.{Fraction, over}
-use Rattle.exact_num.specs.Tests.{is_at_most}
+use Rattle.exact_num.specs.Tests.{greater_of}
 use Rattle.form.specs.declared.orders.Order.{Order}
 use Rattle.form.specs.Payoff.{bundle_legs, scale_of}
 use Rattle.form.specs.Vector.{strike_entry}
@@ -41,12 +41,9 @@ highest_state = 1 ∷ MAX_SETTLEMENT_PRICE ∷ []
 abbrev pub exposure_at : Summed → List ℕ → Fraction
 exposure_at p z = over (rounded_exposure p z) (unit * scale_of z)
 
-abbrev pub larger : Fraction → Fraction → Fraction
-larger x y = if is_at_most x y then y else x
-
 abbrev pub greatest : Fraction → List Fraction → Fraction
 greatest x [] = x
-greatest x (y ∷ ys) = larger x (greatest y ys)
+greatest x (y ∷ ys) = greater_of x (greatest y ys)
 
 abbrev pub greatest_exposure : Summed → Fraction
 greatest_exposure p =

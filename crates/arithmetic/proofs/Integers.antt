@@ -1,9 +1,9 @@
 -- Laws of whole numbers that `omega (arith, ints)` does not find by itself.
-use Rattle.std.proofs.Common.{◌≡◌, ℕ, ◌+◌, ◌-◌, ◌*◌, ◌<◌, ◌≤◌, arith, ℤ, pos, neg_ℤ, ◌+ℤ◌, ◌-ℤ◌, ◌*ℤ◌, ◌<ℤ◌, ◌≤ℤ◌, unsigned_abs, ap, sym, ◌∙◌}
-use Rattle.std.proofs.lemmas.Int.{ints}
+use Rattle.std.proofs.Common.{◌≡◌, ℕ, ◌+◌, ◌-◌, ◌*◌, ◌<◌, ◌≤◌, arith, ℤ, pos, neg_ℤ, ◌+ℤ◌, ◌-ℤ◌, ◌*ℤ◌, ◌<ℤ◌, ◌≤ℤ◌, unsigned_abs, ap, subst, sym, ◌∙◌}
+use Rattle.std.proofs.lemmas.Int.{ints, unsigned_abs-mul}
 use borrow.Author.Differences.{up, down, sum_is_lem, product_is, neg_is, le_out, below_in}
 use native.Mathlib.Nat.{mul-le-mul_left, le_of_mul-le-mul_left}
-use Rattle.std.proofs.Math.Nat.{lt_of_mul-lt-mul_right, mul_comm}
+use Rattle.std.proofs.Math.Nat.{lt_of_mul-lt-mul_right, mul_comm, mul-le-mul}
 
 pub plus_negative : (a b : ℤ) → a +ℤ neg_ℤ b ≡ a -ℤ b
 plus_negative a b = omega (arith, ints)
@@ -23,10 +23,6 @@ pub *ℤ_mono : (n : ℕ) (a b : ℤ) → a ≤ℤ b → (a *ℤ pos n) ≤ℤ (
 
 pub *ℤ_distr : (a b c : ℤ) → (a +ℤ b) *ℤ c ≡ (a *ℤ c) +ℤ (b *ℤ c)
 *ℤ_distr a b c = omega (arith, ints, ap (λ n. n * up c) (sum_is_lem a b), ap (λ n. n * down c) (sum_is_lem a b))
-
--- a difference of natural numbers, as its two parts
-pub difference_is : (a b : ℕ) → up (pos a -ℤ pos b) + b ≡ down (pos a -ℤ pos b) + a
-difference_is a b = omega (arith, ints)
 
 pub neg_ℤ-*ℤ : (a b : ℤ) → neg_ℤ a *ℤ b ≡ neg_ℤ (a *ℤ b)
 neg_ℤ-*ℤ a b =
@@ -59,6 +55,12 @@ pub swap_factors : (z : ℤ) (m n : ℕ) → (z *ℤ pos m) *ℤ pos n ≡ (z *�
 swap_factors z m n = *ℤ_assoc z (pos m) (pos n) ∙ ap (λ (k : ℕ). z *ℤ pos k) (mul_comm m n) ∙ sym (*ℤ_assoc z (pos n) (pos m))
 
 -- ---- sizes
+pub zero_of_size : (z : ℤ) → unsigned_abs z ≡ 0 → z ≡ pos 0
+zero_of_size z h = omega (arith, ints, h)
+
+pub size_of_product : (x y : ℤ) (size bound : ℕ) → unsigned_abs x ≤ size → unsigned_abs y ≤ bound → unsigned_abs (x *ℤ y) ≤ size * bound
+size_of_product x y size bound p q = subst (λ w. w ≤ size * bound) (sym (unsigned_abs-mul x y)) (mul-le-mul p q)
+
 pub unsigned_abs-neg : (z : ℤ) → unsigned_abs (neg_ℤ z) ≡ unsigned_abs z
 unsigned_abs-neg z = omega (arith, ints)
 

@@ -1,16 +1,10 @@
 -- Weighted sums over lists.
-use Rattle.std.proofs.Common.{◌≡◌, ℕ, ◌+◌, ◌*◌, ◌≤◌, ◌<◌, List, [], ◌∷◌, length, get_or, take, zero, suc, add-one, arith, refl, All, ◌++◌, ap, map, zip, ℤ, pos, ◌+ℤ◌, ◌*ℤ◌}
+use Rattle.std.proofs.Common.{◌≡◌, ℕ, ◌+◌, ◌*◌, ◌≤◌, List, [], ◌∷◌, arith, refl, All, ◌++◌, ap, map, zip, ℤ, pos, ◌+ℤ◌, ◌*ℤ◌}
 use Rattle.std.proofs.lemmas.Int.{ints}
-use Rattle.std.proofs.lemmas.List.Elements.{All-nil, All-cons}
+use Rattle.std.proofs.lemmas.List.Elements.{All-cons, All-head, All-nil, All-tail}
 use native.Mathlib.Nat.{mul-le-mul_left}
 use Rattle.arithmetic.specs.Sums.{weigh, weigh_ℤ, total}
 use Rattle.arithmetic.proofs.Products.{products}
-
-pub All-head : {A : Type 0} (P : A → Type 0) (x : A) (xs : List A) → All P (x ∷ xs) → P x
-All-head P x xs h = h 0 x (omega arith)
-
-pub All-tail : {A : Type 0} (P : A → Type 0) (x : A) (xs : List A) → All P (x ∷ xs) → All P xs
-All-tail P x xs h = λ k d lt. h (suc k) d (omega arith)
 
 -- a factor and a sum come out
 pub weigh-linear : {A : Type 0} (c f g : A → ℕ) (k : ℕ) (xs : List A) → weigh c (λ x. k * f x + g x) xs ≡ k * weigh c f xs + weigh c g xs
@@ -31,15 +25,6 @@ pub weigh-le : {A : Type 0} (c f g : A → ℕ) (k l : ℕ) (m : A → ℕ) → 
 weigh-le c f g k l m h [] = omega arith
 weigh-le c f g k l m h (x ∷ xs) = omega (arith, mul-le-mul_left (c x) (h x), weigh-le c f g k l m h xs)
 
--- one more item, as a loop takes it
-pub weigh_more : {A : Type 0} (c f : A → ℕ) (xs : List A) (i : ℕ) (d : A) → i < length xs → weigh c f (take (i + 1) xs) ≡ weigh c f (take i xs) + c (get_or xs i d) * f (get_or xs i d)
-weigh_more c f xs i d h = rw add-one (go xs i h)
-  where
-    go : (xs : List _) (i : ℕ) → i < length xs → weigh c f (take (suc i) xs) ≡ weigh c f (take i xs) + c (get_or xs i d) * f (get_or xs i d)
-    go [] i h = absurd (omega arith)
-    go (x ∷ xs) zero h = omega arith
-    go (x ∷ xs) (suc i) h = omega (arith, go xs i (omega arith))
-
 pub weigh-append : {A : Type 0} (c f : A → ℕ) (xs ys : List A) → weigh c f (xs ++ ys) ≡ weigh c f xs + weigh c f ys
 weigh-append c f [] ys = omega arith
 weigh-append c f (x ∷ xs) ys = omega (arith, weigh-append c f xs ys)
@@ -53,29 +38,12 @@ pub weigh_pos : {A : Type 0} (c f : A → ℕ) (xs : List A) → weigh_ℤ c (λ
 weigh_pos c f [] = refl
 weigh_pos c f (x ∷ xs) = omega (arith, ints, weigh_pos c f xs)
 
--- a factor and a sum come out
-pub weigh_ℤ-linear : {A : Type 0} (c f : A → ℕ) (g : A → ℤ) (k : ℤ) (xs : List A) → weigh_ℤ c (λ x. (k *ℤ pos (f x)) +ℤ g x) xs ≡ (k *ℤ pos (weigh c f xs)) +ℤ weigh_ℤ c g xs
-weigh_ℤ-linear c f g k [] = omega (arith, ints)
-weigh_ℤ-linear c f g k (x ∷ xs) = omega (arith, ints, products, weigh_ℤ-linear c f g k xs)
-
-pub weigh_ℤ-zero : {A : Type 0} (c : A → ℕ) (xs : List A) → weigh_ℤ c (λ _. pos 0) xs ≡ pos 0
-weigh_ℤ-zero c [] = refl
-weigh_ℤ-zero c (x ∷ xs) = omega (arith, ints, weigh_ℤ-zero c xs)
-
 -- amounts k times as large
 pub weigh_ℤ-scale : {A : Type 0} (c : A × ℕ → ℕ) (f : A → ℤ) (k : ℕ) → ((x : A) (a : ℕ) → c (x, k * a) ≡ k * c (x, a)) → (xs : List A) (g : List ℕ)
     → weigh_ℤ c (λ (p : A × ℕ). f p.0) (zip xs (map (λ a. k * a) g)) ≡ weigh_ℤ c (λ (p : A × ℕ). f p.0) (zip xs g) *ℤ pos k
 weigh_ℤ-scale c f k h [] g = omega (arith, ints)
 weigh_ℤ-scale c f k h (x ∷ xs) [] = omega (arith, ints)
 weigh_ℤ-scale c f k h (x ∷ xs) (a ∷ g) = omega (arith, ints, products, ap (λ n. f x *ℤ pos n) (h x a), weigh_ℤ-scale c f k h xs g)
-
-pub weigh_ℤ_more : {A : Type 0} (c : A → ℕ) (f : A → ℤ) (xs : List A) (i : ℕ) (d : A) → i < length xs → weigh_ℤ c f (take (i + 1) xs) ≡ weigh_ℤ c f (take i xs) +ℤ (f (get_or xs i d) *ℤ pos (c (get_or xs i d)))
-weigh_ℤ_more c f xs i d h = rw add-one (go xs i h)
-  where
-    go : (xs : List _) (i : ℕ) → i < length xs → weigh_ℤ c f (take (suc i) xs) ≡ weigh_ℤ c f (take i xs) +ℤ (f (get_or xs i d) *ℤ pos (c (get_or xs i d)))
-    go [] i h = absurd (omega arith)
-    go (x ∷ xs) zero h = omega (arith, ints)
-    go (x ∷ xs) (suc i) h = omega (arith, ints, go xs i (omega arith))
 
 -- ---- plain sums
 pub total-map : {A B : Type 0} (v : B → ℤ) (f : A → B) (xs : List A) → total v (map f xs) ≡ total (λ x. v (f x)) xs

@@ -3,10 +3,6 @@ use Rattle.std.proofs.Common.{◌≡◌, ℕ, Bool, true, false, cond, not, ◌|
 use Rattle.std.proofs.lemmas.Bool.Decides.{nat_tests}
 use Rattle.auction_phases.specs.Phases.{is_closed, with_closed, with_open}
 
--- two markets are apart from either side
-pub apart : (market other : ℕ) → nat_eq market other ≡ false → nat_eq other market ≡ false
-apart market other is = grind (arith, nat_tests)
-
 -- a closed market stays closed as another is opened
 pub stays_closed : (market other : ℕ) → nat_eq market other ≡ false → (closed : List ℕ) → is_closed closed market ≡ true → is_closed (with_open closed other) market ≡ true
 stays_closed market other differ [] is = cc

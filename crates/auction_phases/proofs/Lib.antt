@@ -1,4 +1,3 @@
-pub mod Barred
 pub mod ClosedLists
 pub mod Ends
 pub mod StandingStill

@@ -1,6 +1,5 @@
 pub mod FormedCells
 pub mod FoundBooks
-pub mod Judgements
 pub mod LiveOrders
 pub mod ProposalsWithin
 pub mod ReadAsHandedIn

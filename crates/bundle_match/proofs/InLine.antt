@@ -1,7 +1,7 @@
 -- A stable sort of offers leaves them in line: there is one order in which none stands before an
 -- earlier one and offers that tie stay as they were.
 use Rattle.std.proofs.Common.{◌≡◌, ℕ, suc, ◌+◌, ◌<◌, List, [], ◌∷◌, Bool, true, false, not, cond, filter, length, get_or, refl, sym, ap, subst, ◌∙◌, arith}
-use Rattle.std.proofs.lemmas.Bool.{and_parts}
+use Rattle.std.proofs.lemmas.Bool.{and_parts, not-true}
 use Rattle.std.proofs.lemmas.Bool.Decides.{nat_tests}
 use Rattle.std.proofs.lemmas.Grind.{common_steps}
 use Rattle.std.proofs.lemmas.List.Sorted.{sorted_far}
@@ -78,15 +78,11 @@ tied_when side x y a b = rw (a, b) refl
 ties_itself : (side : Side) (x : Offer) → tied side x x ≡ true
 ties_itself side x = tied_when side x x (not_first_itself side x) (not_first_itself side x)
 
-is_false : (b : Bool) → not b ≡ true → b ≡ false
-is_false true h = sym h
-is_false false h = refl
-
 -- an offer that is put behind one that stands before it does not tie with what that one ties with
 not_both : (side : Side) (x y z : Offer) → stands_before side z y ≡ true → tied side x z ≡ true → tied side x y ≡ true → ⊥
 not_both side x y z first a b =
-    let back = is_false (stands_before side z x) (and_parts (not (stands_before side x z)) (not (stands_before side z x)) a).1 in
-    let on = is_false (stands_before side x y) (and_parts (not (stands_before side x y)) (not (stands_before side y x)) b).0 in
+    let back = not-true (stands_before side z x) (and_parts (not (stands_before side x z)) (not (stands_before side z x)) a).1 in
+    let on = not-true (stands_before side x y) (and_parts (not (stands_before side x y)) (not (stands_before side y x)) b).0 in
     let later = chain side z x y back on in
     cc
 

@@ -4,6 +4,7 @@ use Rattle.std.proofs.lemmas.List.Folds.{list_any_more, list_any_at}
 use Rattle.std.proofs.lemmas.List.Sums.{sum_by-append}
 use Rattle.std.proofs.lemmas.Option.{slice_get_within, get_or_from_slice_get}
 use Rattle.std.specs.List.{list_any}
+use Rattle.std.proofs.Math.Bool.{and-false, or-false}
 use Rattle.form.specs.declared.orders.Order.{Order}
 use Rattle.form.specs.Vector.{is_same_bundle}
 use Rattle.form.specs.Payoff.{BundleLeg, bundle_of}
@@ -20,17 +21,10 @@ abbrev pub AreTradesSoFar : List Order → ℕ → List Trade → Type 0
 AreTradesSoFar orders place trades =
     (k : ℕ) (o : Order) → slice_get orders k ≡ Some o → fill_at o.side k trades ≡ (if is_seen orders place (bundle_of o) then fill_of orders k o else 0)
 
-pub none_so_far : (orders : List Order) → AreTradesSoFar orders 0 []
-none_so_far orders k o at = refl
-
 seen_more : (orders : List Order) (place : ℕ) (x : Order) (bundle : List BundleLeg) → slice_get orders place ≡ Some x → is_seen orders (place + 1) bundle ≡ (is_seen orders place bundle || is_same_bundle (bundle_of x) bundle)
 seen_more orders place x bundle at =
     list_any_more (λ (earlier : Order). is_same_bundle (bundle_of earlier) bundle) orders place x (slice_get_within orders place x at)
     ∙ ap (λ (o : Order). is_seen orders place bundle || is_same_bundle (bundle_of o) bundle) (get_or_from_slice_get orders place x x at)
-
-or-false : (b : Bool) → (b || false) ≡ b
-or-false true = refl
-or-false false = refl
 
 -- with the first order of a bundle its trades come, and with a later one none
 module _ (orders : List Order) (place : ℕ) (x : Order) (at_x : slice_get orders place ≡ Some x) (trades : List Trade) (h : AreTradesSoFar orders place trades) where
@@ -58,10 +52,6 @@ module _ (orders : List Order) (place : ℕ) (x : Order) (at_x : slice_get order
             | true ↦ λ same. let back : is_same_bundle (bundle_of x) (bundle_of o) ≡ true = subst (λ b. is_same_bundle (bundle_of x) b ≡ true) (sym (same_bundle_is (bundle_of o) (bundle_of x) same)) (bundle_is_same (bundle_of x)) in cc
             | false ↦ λ _. and-false (is_on o.side o.side)
           ]) refl
-        where
-          and-false : (b : Bool) → (b && false) ≡ false
-          and-false true = refl
-          and-false false = refl
 
   pub later_of_bundle : is_seen orders place (bundle_of x) ≡ true → AreTradesSoFar orders (place + 1) trades
   later_of_bundle seen k o at =

@@ -50,9 +50,3 @@ module _ (holding_of : ℕ → Option Holding) (entries : List Entry) (kept : Ar
       let is = total-balance account holding there in
       let r = balance_size account entries kept.bounded in
       omega (arith, ints, is, r.0, r.1, reserve_small account holding there)
-
-  pub total_fits : (account : ℕ) (holding : Holding) → holding_of account ≡ Some holding → length entries < 2 ^ 64 → FitsSigned w128 holding.total
-  total_fits account holding there few =
-      let is = total-balance account holding there in
-      let r = balance_size account entries kept.bounded in
-      omega (arith, ints, is, r.0, r.1)

@@ -1,8 +1,8 @@
 -- What the verdict on a cover shows.
 use Rattle.std.proofs.Common.{◌≡◌, ℕ, ◌+◌, Bool, true, false, List, [], ◌∷◌, ◌++◌, length, map, get_or, ℤ, Result, Ok, Err, Option, Some, None, refl, ap, sym, ◌∙◌, subst, All}
 use Rattle.std.proofs.lemmas.List.{length-map}
-use Rattle.std.proofs.lemmas.List.Elements.{All-nil, All-cons, All-append}
-use Rattle.arithmetic.proofs.Sums.{All-head, All-tail, All-of_map, All-to_map}
+use Rattle.std.proofs.lemmas.List.Elements.{All-append, All-cons, All-head, All-nil, All-tail}
+use Rattle.arithmetic.proofs.Sums.{All-of_map, All-to_map}
 use Rattle.exact_num.specs.declared.misfit.Wide.{Wide as Misfit}
 use Rattle.exact_num.specs.Fraction.{Fraction, IsDefined, IsNotBelowZero}
 use Rattle.form.specs.declared.orders.Order.{Order}

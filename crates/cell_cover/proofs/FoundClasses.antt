@@ -1,10 +1,11 @@
 -- Classes by their numbers.
-use Rattle.std.proofs.Common.{◌≡◌, ℕ, zero, suc, ◌-◌, ◌≤◌, List, [], ◌∷◌, length, map, Option, Some, None, Bool, true, false, ◌&&◌, refl, ap, sym, ◌∙◌, arith}
+use Rattle.std.proofs.Common.{◌≡◌, ℕ, zero, suc, ◌-◌, ◌≤◌, List, [], ◌∷◌, length, map, Option, Some, None, true, false, refl, ap, sym, ◌∙◌, arith}
 use Rattle.std.specs.Prelude.{slice_get, is_some, nat_lt, MatchOption}
 use Rattle.std.specs.Option.{option_map}
 use Rattle.std.proofs.lemmas.List.{length-map}
 use Rattle.std.proofs.lemmas.Option.{get_or_from_slice_get, slice_get-map, slice_get_within}
 use Rattle.std.proofs.lemmas.Bool.{le-ltb, lt-ltb}
+use Rattle.std.proofs.Math.Bool.{and-false}
 use Rattle.exact_num.specs.Fraction.{Fraction}
 use Rattle.exact_num.specs.Tests.{is_not_below_zero}
 use Rattle.cell_cover.specs.declared.vectors.Row.{Row}
@@ -55,11 +56,7 @@ mixes_with known m (Bounded w) None is low h = rw is refl
 mixes_with known m (Bounded w) (Some s) is low h = cc
 
 pub mixes_not : (known : List (Known (List Fraction))) (m : ClassMultiplier) → is_not_below_zero m.by ≡ false → may_mix known m ≡ false
-mixes_not known m low = rw low (off (has_sign (known_at known m.class)))
-  where
-    off : (b : Bool) → (b && false) ≡ false
-    off true = refl
-    off false = refl
+mixes_not known m low = rw low (and-false (has_sign (known_at known m.class)))
 
 -- ---- a class that there is not
 beyond : (xs : List Class) (i : ℕ) → slice_get xs i ≡ None → length xs ≤ i

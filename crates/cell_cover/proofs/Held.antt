@@ -58,10 +58,6 @@ signed_fits z class Plus h fit = fit
 signed_fits z class Minus h fit = fit
 signed_fits z class (Bounded w) h fit = absurd (cc)
 
-sum_not_below : {A : Type 0} (f : A → Q) (xs : List A) → ((x : A) → IsNotBelow0 (f x)) → IsNotBelow0 (sum_over f xs)
-sum_not_below f [] h = zero_not_below
-sum_not_below f (x ∷ xs) h = add_not_below (f x) (sum_over f xs) (h x) (sum_not_below f xs h)
-
 mixture_not_below : (z : List ℕ) (classes : List Class) (known : List (Known Entries)) (ms : List ClassMultiplier) → FitAll z classes known → list_all (may_mix known) ms ≡ true → IsNotBelow0 (along (mixture classes known ms) z)
 mixture_not_below z classes known [] fits h = subst IsNotBelow0 (sym (along-zero z)) zero_not_below
 mixture_not_below z classes known (m ∷ ms) fits h =

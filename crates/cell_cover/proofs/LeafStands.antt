@@ -4,8 +4,7 @@ use Rattle.std.specs.Prelude.{if◌then◌else◌, int_le, int_lt, nat_lt, nat_l
 use Rattle.std.specs.List.{list_all}
 use Rattle.std.proofs.lemmas.Int.{ints}
 use Rattle.std.proofs.lemmas.Bool.{cases_lt, and_parts, both_ways, not-true, eq-eqb, ne_eqb, ltb-true, leb-true, or_parts, or_from}
-use Rattle.std.proofs.lemmas.List.Elements.{All-nil, All-cons}
-use Rattle.arithmetic.proofs.Sums.{All-head, All-tail}
+use Rattle.std.proofs.lemmas.List.Elements.{All-cons, All-head, All-nil, All-tail}
 use Rattle.exact_num.specs.Fraction.{Fraction, IsLowest, whole, negated}
 use Rattle.exact_num.specs.Fits.{after}
 use Rattle.exact_num.specs.Steps.{fold_steps}

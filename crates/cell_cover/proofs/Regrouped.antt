@@ -2,9 +2,9 @@
 use Rattle.std.proofs.Common.{◌≡◌, ℕ, ◌*◌, ◌/◌, Bool, true, false, List, [], ◌∷◌, ◌++◌, length, map, arith, ℤ, pos, neg_ℤ, ◌+ℤ◌, ◌*ℤ◌, ◌≤ℤ◌, refl, ap, sym, ◌∙◌, subst, All}
 use Rattle.std.specs.Prelude.{if◌then◌else◌}
 use Rattle.std.proofs.lemmas.Int.{ints}
-use Rattle.std.proofs.lemmas.List.Elements.{All-nil, All-cons}
+use Rattle.std.proofs.lemmas.List.Elements.{All-cons, All-head, All-nil, All-tail}
 use Rattle.arithmetic.proofs.Products.{products}
-use Rattle.arithmetic.proofs.Sums.{All-head, All-tail, All-of_map}
+use Rattle.arithmetic.proofs.Sums.{All-of_map}
 use Rattle.exact_num.specs.Fraction.{Fraction, IsDefined, IsNotBelowZero}
 use Rattle.exact_num.specs.CommonDenominator.{common_denominator, amount_over}
 use Rattle.exact_num.specs.Rationals.{Q, ◌+Q◌, ◌*Q◌, neg_Q, 0Q, whole_Q, value, IsNotBelow0, IsAtMost}

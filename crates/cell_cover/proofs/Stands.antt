@@ -6,13 +6,13 @@ use Rattle.exact_num.specs.declared.misfit.Wide.{Wide}
 use Rattle.exact_num.specs.Fraction.{Fraction, IsLowest, whole, negated}
 use Rattle.exact_num.specs.Fits.{add_of, sub_of, mul_of, after}
 use Rattle.exact_num.specs.Steps.{plus_product, less_product}
-use Rattle.exact_num.specs.Tests.{is_at_most, is_above_zero, is_below_zero, is_not_below_zero}
+use Rattle.exact_num.specs.Tests.{greater_of, is_above_zero, is_at_most, is_below_zero, is_not_below_zero}
 use Rattle.exact_num.specs.Rationals.{Q, ◌+Q◌, ◌*Q◌, neg_Q, 0Q, whole_Q, value}
 use Rattle.exact_num.proofs.After.{after_value}
 use Rattle.exact_num.proofs.Values.{whole_is_lowest, negated_is_lowest}
 use Rattle.exact_num.proofs.Rationals.{sum_step, product_step, value_of_lowest, value_zero, value_whole, value_negated, at_most_value, value_at_most}
 use Rattle.cell_cover.specs.Closed.{Entries, is_above, is_below, is_not_below, is_no_more, greater}
-use Rattle.cell_cover.specs.Walk.{each_of, plus_each, less_each, greater_of, greater_each, at_least_zero}
+use Rattle.cell_cover.specs.Walk.{each_of, plus_each, less_each, greater_each, at_least_zero}
 use Rattle.cell_cover.proofs.Ordered.{not_below_from}
 
 -- ---- a number

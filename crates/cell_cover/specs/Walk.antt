@@ -6,7 +6,7 @@ use Rattle.exact_num.specs.declared.misfit.Wide.{Wide}
 use Rattle.exact_num.specs.Fraction.{Fraction, whole, negated}
 use Rattle.exact_num.specs.Fits.{add_of, mul_of, after}
 use Rattle.exact_num.specs.Steps.{fold_steps, and_then, plus_product, less_product}
-use Rattle.exact_num.specs.Tests.{is_at_most, is_above_zero, is_below_zero, is_not_below_zero}
+use Rattle.exact_num.specs.Tests.{greater_of, is_above_zero, is_at_most, is_below_zero, is_not_below_zero}
 use Rattle.clearing_model.specs.Legs.{Exposure, Long, Short}
 use Rattle.sign_tree.specs.Legs.{FractionLeg}
 use Rattle.sign_tree.specs.Walk.{less_liability}
@@ -37,9 +37,6 @@ plus_each limit totals m xs = add_each {W = Unit {0}} limit Plus totals m xs
 
 abbrev pub less_each : ℕ → List Fraction → Fraction → List Fraction → Result (List Fraction) Wide
 less_each limit totals m xs = add_each {W = Unit {0}} limit Minus totals m xs
-
-abbrev pub greater_of : Fraction → Fraction → Fraction
-greater_of x y = if is_at_most x y then y else x
 
 abbrev pub greater_each : List Fraction → List Fraction → List Fraction
 greater_each xs ys = map (λ (p : Fraction × Fraction). greater_of p.0 p.1) (zip xs ys)

@@ -3,10 +3,11 @@
 ghost use Rattle.std.specs.Prelude.{ℕ, ◌≡◌, ◌≤◌, pos, replicate};
 ghost use Rattle.exact_num.specs.Fraction.{whole};
 ghost use Rattle.exact_num.specs.Fits.{meaning};
+ghost use Rattle.exact_num.specs.Tests.{greater_of};
 ghost use Rattle.frac.specs.Range.{limit};
 ghost use Rattle.frac.specs.Value.{fraction_of};
 ghost use Rattle.cell_cover.specs.Rows.{row_of, sign_as};
-ghost use Rattle.cell_cover.specs.Walk.{add_each, add_signed, at_least_zero, greater_each, greater_of};
+ghost use Rattle.cell_cover.specs.Walk.{add_each, add_signed, at_least_zero, greater_each};
 
 use crate::vectors::{Row, Sign};
 use exact_num::{Exact, Wide, plus_product};

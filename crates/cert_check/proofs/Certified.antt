@@ -1,7 +1,7 @@
 -- What follows from the conditions of the model: the fills cover, and the measure proves the
 -- greatest surplus.
 use Rattle.std.proofs.Common.{List, [], ◌∷◌, map, All, sym, subst}
-use Rattle.arithmetic.proofs.Sums.{All-head, All-tail}
+use Rattle.std.proofs.lemmas.List.Elements.{All-head, All-tail}
 use Rattle.frac.specs.Value.{fraction_of}
 use Rattle.form.specs.declared.orders.Batch.{Batch}
 use Rattle.clearing_model.specs.Certificate.{FillsCover, AreFractionFills, IsPremiumLessLiability, HasUnitMass, MeasureProves}

@@ -1,17 +1,16 @@
 -- A verdict decides the conditions of the model: a yes meets each, and a no has the first that is
 -- not met.
-use Rattle.std.proofs.Common.{◌≡◌, Bool, true, false, List, [], ◌∷◌, length, map, zip, arith, All, Result, Ok, Err, refl, sym, subst, inl, inr}
+use Rattle.std.proofs.Common.{◌≡◌, Bool, true, false, List, [], ◌∷◌, map, zip, All, Result, Ok, Err, refl, sym, subst, inl, inr}
 use Rattle.std.proofs.lemmas.List.Elements.{All-nil, All-cons}
-use Rattle.arithmetic.proofs.Sums.{All-head, All-tail}
+use Rattle.market_laws.proofs.Certificate.{fills_not_below}
 use Rattle.exact_num.specs.declared.misfit.Wide.{Wide as Misfit}
-use Rattle.exact_num.specs.Fraction.{Fraction, IsNotBelowZero}
 use Rattle.exact_num.proofs.After.{after_value}
 use Rattle.frac.specs.declared.frac128.Frac128.{Frac128}
 use Rattle.frac.specs.Range.{limit}
 use Rattle.frac.specs.Value.{fraction_of}
 use Rattle.form.specs.declared.orders.Order.{Order}
 use Rattle.form.specs.declared.orders.Batch.{Batch}
-use Rattle.clearing_model.specs.Certificate.{IsFill, AreFractionFills, HasUnitMass, MeasureProves}
+use Rattle.clearing_model.specs.Certificate.{AreFractionFills, HasUnitMass, MeasureProves}
 use Rattle.line_cover.proofs.Sound.{lines_that_hold_close, lines_that_fail_do_not_close}
 use Rattle.frac.proofs.Lowest.{lowest_of}
 use Rattle.exact_num.proofs.Loops.{both, not_both}
@@ -45,12 +44,6 @@ use Rattle.cert_check.proofs.Shapes.{shape_met, shape_unmet, fills_met, fills_un
 use Rattle.cert_check.proofs.Surplus.{surplus_is, surplus_is_not}
 use Rattle.cert_check.proofs.Fallback.{fallback_is, fallback_is_not}
 
-fills_not_below : (os : List Order) (fs : List Fraction) → length fs ≡ length os → All IsFill (zip os fs) → All IsNotBelowZero fs
-fills_not_below os [] len are = All-nil IsNotBelowZero
-fills_not_below [] (f ∷ fs) len are = absurd (omega arith)
-fills_not_below (o ∷ os) (f ∷ fs) len are =
-    All-cons IsNotBelowZero f fs (All-head IsFill (o, f) (zip os fs) are).1 (fills_not_below os fs (omega arith) (All-tail IsFill (o, f) (zip os fs) are))
-
 pub enough : (batch : Batch) (fs : List Frac128) (L : Frac128) (mark : Mark) → AreFractionFills batch.orders (map fraction_of fs)
     → mark_covers limit batch.underlyings batch.orders (map fraction_of fs) (fraction_of L) mark ≡ Ok true
     → IsEnough batch.underlyings batch.orders (map fraction_of fs) (fraction_of L) mark
@@ -58,7 +51,7 @@ enough batch fs L (Optimal Line measure) are h =
     lines_that_hold_close limit batch.orders (map fraction_of fs) (fraction_of L) are.0 (lowest_of fs) L.lowest h
 enough batch fs L (Optimal (Tree tree) measure) are h =
     walks_close_trees limit batch.underlyings batch.orders (map fraction_of fs) (fraction_of L) (map node_of tree.nodes) (map placed_of tree.multipliers) are.0 (lowest_of fs)
-    (fills_not_below batch.orders (map fraction_of fs) are.0 are.1) L.lowest (multipliers_lowest tree.multipliers) h
+    (fills_not_below batch.orders (map fraction_of fs) are.1 are.0) L.lowest (multipliers_lowest tree.multipliers) h
 enough batch fs L (Wide w) are h = fallback_is batch.orders (map fraction_of fs) (fraction_of L) are (lowest_of fs) L.lowest h
 enough batch fs L Budget are h = fallback_is batch.orders (map fraction_of fs) (fraction_of L) are (lowest_of fs) L.lowest h
 
@@ -69,7 +62,7 @@ not_enough batch fs L (Optimal Line measure) are h =
     lines_that_fail_do_not_close limit batch.orders (map fraction_of fs) (fraction_of L) are.0 (lowest_of fs) L.lowest h
 not_enough batch fs L (Optimal (Tree tree) measure) are h =
     open_walks_close_no_tree limit batch.underlyings batch.orders (map fraction_of fs) (fraction_of L) (map node_of tree.nodes) (map placed_of tree.multipliers) are.0 (lowest_of fs)
-    (fills_not_below batch.orders (map fraction_of fs) are.0 are.1) L.lowest (multipliers_lowest tree.multipliers) h
+    (fills_not_below batch.orders (map fraction_of fs) are.1 are.0) L.lowest (multipliers_lowest tree.multipliers) h
 not_enough batch fs L (Wide w) are h = fallback_is_not batch.orders (map fraction_of fs) (fraction_of L) are (lowest_of fs) h
 not_enough batch fs L Budget are h = fallback_is_not batch.orders (map fraction_of fs) (fraction_of L) are (lowest_of fs) h
 

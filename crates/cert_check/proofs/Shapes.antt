@@ -1,13 +1,11 @@
 -- What the tests of the shape and of the fills say.
-use Rattle.std.proofs.Common.{◌≡◌, ℕ, ◌+◌, ◌*◌, ◌<◌, true, false, ◌==◌, ◌&&◌, List, [], ◌∷◌, length, get_or, map, zip, arith, pos, ◌≤ℤ◌, ◌*ℤ◌, All, refl, sym, ◌∙◌, eqb-true}
-use Rattle.std.specs.Prelude.{nat_lt}
-use Rattle.std.proofs.lemmas.Bool.Decides.{nat_tests}
-use Rattle.std.proofs.lemmas.Bool.{and_parts}
+use Rattle.std.proofs.Common.{◌≡◌, ℕ, ◌+◌, ◌*◌, true, false, ◌==◌, ◌&&◌, List, [], ◌∷◌, length, get_or, map, zip, arith, pos, ◌≤ℤ◌, ◌*ℤ◌, All, refl, sym, ◌∙◌, eqb-true}
+use Rattle.std.proofs.lemmas.Bool.{and_from, and_parts, eq-eqb, lt-ltb, ltb-true}
 use Rattle.std.proofs.lemmas.Int.{ints}
 use Rattle.std.proofs.lemmas.List.{length-map}
-use Rattle.std.proofs.lemmas.List.Elements.{All-nil, All-cons}
+use Rattle.std.proofs.lemmas.List.Elements.{All-cons, All-head, All-nil, All-tail}
 use Rattle.std.proofs.lemmas.List.Sums.{AllPass-from_list_all, list_all-from_AllPass}
-use Rattle.arithmetic.proofs.Sums.{All-head, All-tail, All-of_map, All-to_map}
+use Rattle.arithmetic.proofs.Sums.{All-of_map, All-to_map}
 use Rattle.exact_num.specs.Fraction.{whole}
 use Rattle.frac.specs.declared.frac128.Frac128.{Frac128}
 use Rattle.frac.specs.Value.{fraction_of}
@@ -22,7 +20,7 @@ use Rattle.form.proofs.BundleLegs.{is_bundle_of, on_count-from, on_count-true}
 use Rattle.cert_check.specs.declared.measures.Weighted.{Weighted}
 use Rattle.cert_check.specs.declared.measures.Measure.{Measure}
 use Rattle.cert_check.specs.Points.{point_of}
-use Rattle.arithmetic.proofs.Tests.{and_true, int_le-true, int_le-yes}
+use Rattle.arithmetic.proofs.Tests.{int_le-true, int_le-yes}
 use Rattle.cert_check.specs.declared.outcome.Cover.{Cover}
 use Rattle.cert_check.specs.declared.outcome.Cover.TheVariants.{Line, Tree}
 use Rattle.cert_check.specs.declared.outcome.Mark.{Mark}
@@ -32,15 +30,6 @@ use Rattle.cert_check.specs.Conditions.{IfOptimal, IsCoverOn, IsOfBatch}
 use Rattle.cert_check.specs.Tests.{AreSigns, HasSigns}
 use Rattle.cert_check.specs.Shape.{IsMarkOn, forms_have, states_have, cover_fits, mark_fits, has_shape, is_fill, are_fills}
 use Rattle.exact_num.specs.Tests.{is_at_most, is_not_below_zero}
-
-pub equal_is_true : (a b : ℕ) → a ≡ b → (a == b) ≡ true
-equal_is_true a b h = grind (arith, nat_tests)
-
-less_is_true : (a b : ℕ) → a < b → nat_lt a b ≡ true
-less_is_true a b h = grind (arith, nat_tests)
-
-true_is_less : (a b : ℕ) → nat_lt a b ≡ true → a < b
-true_is_less a b h = grind (arith, nat_tests)
 
 -- the forms of a bundle on n underlyings have n + 1 entries
 count_of_order : (n : ℕ) (o : Order) → IsBundle n (bundle_of o) → IsOnCount (n + 1) o.bundle
@@ -74,15 +63,15 @@ states_are n points have = All-to_map (IsOnState n) point_of points (λ k d lt. 
 pub states_pass : (n : ℕ) (points : List Weighted) → All (IsOnState n) (map point_of points) → states_have (n + 1) points ≡ true
 states_pass n points are =
     list_all-from_AllPass (λ (point : Weighted). point.state.count == n + 1) points
-    (λ k d lt. equal_is_true _ (n + 1) (sym (length-vector_of (get_or points k d).state) ∙ (All-of_map (IsOnState n) point_of points are k d lt).0))
+    (λ k d lt. eq-eqb _ (n + 1) (sym (length-vector_of (get_or points k d).state) ∙ (All-of_map (IsOnState n) point_of points are k d lt).0))
 
 pub cover_is_on : (n : ℕ) (cover : Cover) → cover_fits n cover ≡ true → IsCoverOn n cover
 cover_is_on n Line h = eqb-true n 1 h
-cover_is_on n (Tree tree) h = true_is_less 1 n h
+cover_is_on n (Tree tree) h = ltb-true 1 n h
 
 pub cover_passes : (n : ℕ) (cover : Cover) → IsCoverOn n cover → cover_fits n cover ≡ true
-cover_passes n Line is = equal_is_true n 1 is
-cover_passes n (Tree tree) is = less_is_true 1 n is
+cover_passes n Line is = eq-eqb n 1 is
+cover_passes n (Tree tree) is = lt-ltb 1 n is
 
 -- cover and measure are on n underlyings
 abbrev pub AreOnTheSame : ℕ → Cover → Measure → Type 0
@@ -107,7 +96,7 @@ has_signs (Tree tree) orders signs are = are
 
 mark_passes : (n : ℕ) (mark : Mark) → IfOptimal mark (AreOnTheSame n) → mark_fits n mark ≡ true
 mark_passes n (Optimal cover measure) is =
-    and_true (cover_fits n cover) (states_have (n + 1) measure.points) (cover_passes n cover is.0) (states_pass n measure.points is.1)
+    and_from (cover_fits n cover) (states_have (n + 1) measure.points) (cover_passes n cover is.0) (states_pass n measure.points is.1)
 mark_passes n (Wide w) is = refl
 mark_passes n Budget is = refl
 
@@ -138,10 +127,10 @@ shape_met batch outcome h =
 
 pub shape_unmet : (batch : Batch) (outcome : Outcome) → has_shape batch outcome ≡ false → ¬ (IsOfBatch batch outcome)
 shape_unmet batch outcome h is =
-    let many = equal_is_true (length outcome.fills) (length batch.orders) is.fills in
+    let many = eq-eqb (length outcome.fills) (length batch.orders) is.fills in
     let forms = forms_pass batch.underlyings batch.orders is.orders in
-    let first = and_true (length outcome.fills == length batch.orders) (forms_have (batch.underlyings + 1) batch.orders) many forms in
-    let passes = and_true ((length outcome.fills == length batch.orders) && forms_have (batch.underlyings + 1) batch.orders) (mark_fits batch.underlyings outcome.mark) first (mark_passes batch.underlyings outcome.mark is.mark) in
+    let first = and_from (length outcome.fills == length batch.orders) (forms_have (batch.underlyings + 1) batch.orders) many forms in
+    let passes = and_from ((length outcome.fills == length batch.orders) && forms_have (batch.underlyings + 1) batch.orders) (mark_fits batch.underlyings outcome.mark) first (mark_passes batch.underlyings outcome.mark is.mark) in
     cc (h, passes)
 
 fills_are : (os : List Order) (fs : List Frac128) → are_fills os fs ≡ true → All IsFill (zip os (map fraction_of fs))
@@ -162,8 +151,8 @@ fills_pass (o ∷ os) (f ∷ fs) are =
     let least : f.numerator ≤ℤ pos (o.quantity * f.denominator) = here.2 in
     let most : (f.numerator *ℤ pos 1) ≤ℤ (pos o.quantity *ℤ pos f.denominator) = omega (arith, ints) in
     let fits : is_at_most (fraction_of f) (whole (pos o.quantity)) ≡ true = int_le-true (f.numerator *ℤ pos 1) (pos o.quantity *ℤ pos f.denominator) most in
-    let passes = and_true (is_not_below_zero (fraction_of f)) (is_at_most (fraction_of f) (whole (pos o.quantity))) (int_le-true (pos 0) f.numerator here.1) fits in
-    and_true (is_fill o (fraction_of f)) (are_fills os fs) passes (fills_pass os fs (All-tail IsFill (o, fraction_of f) (zip os (map fraction_of fs)) are))
+    let passes = and_from (is_not_below_zero (fraction_of f)) (is_at_most (fraction_of f) (whole (pos o.quantity))) (int_le-true (pos 0) f.numerator here.1) fits in
+    and_from (is_fill o (fraction_of f)) (are_fills os fs) passes (fills_pass os fs (All-tail IsFill (o, fraction_of f) (zip os (map fraction_of fs)) are))
 
 pub fills_met : (os : List Order) (fs : List Frac128) → length fs ≡ length os → are_fills os fs ≡ true → AreFractionFills os (map fraction_of fs)
 fills_met os fs len h = (length-map fs fraction_of ∙ len, fills_are os fs h)

@@ -1,9 +1,8 @@
 -- The premium less the liability, summed step by step.
 use Rattle.std.proofs.Common.{◌≡◌, Bool, true, false, List, ◌∷◌, zip, pos, ◌-ℤ◌, ◌≤ℤ◌, All, Ok, subst}
-use Rattle.std.proofs.lemmas.Bool.{and_parts}
-use Rattle.std.proofs.lemmas.List.Elements.{All-cons}
-use Rattle.arithmetic.proofs.Sums.{All-head, All-tail}
-use Rattle.arithmetic.proofs.Tests.{and_true, int_le-true, int_le-yes}
+use Rattle.std.proofs.lemmas.Bool.{and_from, and_parts}
+use Rattle.std.proofs.lemmas.List.Elements.{All-cons, All-head, All-tail}
+use Rattle.arithmetic.proofs.Tests.{int_le-true, int_le-yes}
 use Rattle.exact_num.specs.Fraction.{Fraction, IsLowest}
 use Rattle.exact_num.specs.CommonDenominator.{common_denominator, amount_over, IsRatio}
 use Rattle.exact_num.specs.Fits.{sub_of, after}
@@ -54,6 +53,6 @@ surplus_is_not os fs L S low lowest_L h is least =
     let sum = surplus_sum os fs L S false low lowest_L h in
     let one = common_positive (L ∷ fs) (lowest_are_defined (L ∷ fs) (All-cons IsLowest L fs lowest_L low)) in
     let same = ratio_is_same sum.left S (signed_premium (signed_over D os fs) -ℤ amount_over D L) D one sum.stands.ratio is in
-    let passes = and_true (is_same sum.left S) (is_not_below_zero S) same (int_le-true (pos 0) S.numerator least) in
+    let passes = and_from (is_same sum.left S) (is_not_below_zero S) same (int_le-true (pos 0) S.numerator least) in
     let test = sum.test in
     cc (passes, test)

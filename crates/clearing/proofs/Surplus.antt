@@ -3,7 +3,8 @@ use Rattle.std.proofs.Common.{◌≡◌, ◌≤◌, ◌*◌, unsigned_abs, lengt
 use Rattle.std.proofs.lemmas.Int.{ints}
 use Rattle.std.proofs.lemmas.Nat.{mul-le}
 use Rattle.std.specs.List.{zip}
-use Rattle.arithmetic.proofs.Sums.{weigh_pos, All-head, All-tail}
+use Rattle.std.proofs.lemmas.List.Elements.{All-head, All-tail}
+use Rattle.arithmetic.proofs.Sums.{weigh_pos}
 use Rattle.arithmetic.specs.Sums.{weigh}
 use Rattle.clearing_model.specs.Clearing.{Filled, if_buy, if_sell, bought, sold, premium}
 use Rattle.form.specs.declared.limits.TheConstants.{MAX_PRICE, MAX_QUANTITY}

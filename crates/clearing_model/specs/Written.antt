@@ -55,10 +55,6 @@ tree_over D legs (Parts place plus minus) = Split (place - 1) (tree_over D legs 
 abbrev pub Reads : List WrittenNode → List PlacedMultiplier → List WrittenNode → List PlacedMultiplier → Type 0
 Reads nodes ms rest left = (tree : WrittenTree) × (nodes ≡ nodes_of tree ++ rest) × (ms ≡ multipliers_of tree ++ left)
 
--- no whole tree is
-abbrev pub ReadsNone : List WrittenNode → List PlacedMultiplier → Type 0
-ReadsNone nodes ms = (rest : List WrittenNode) (left : List PlacedMultiplier) → Reads nodes ms rest left → ⊥
-
 -- a multiplier stands at a short leg or at a signed long one
 abbrev pub MayCarry : Exposure → Sign → Type 0
 MayCarry Long Unsigned = ⊥

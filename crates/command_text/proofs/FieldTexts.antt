@@ -1,6 +1,6 @@
 -- The fields of a line are what stands between its commas, without the quotation marks around it.
 use Rattle.std.proofs.Common.{◌≡◌, ℕ, suc, arith, ◌-◌, List, [], ◌∷◌, length, take, map, Bool, true, false, not, nat_eq, Option, Some, None, is_some, option_map, option_and_then, inl, inr, refl, sym, ap, ◌∙◌, true≢false, ◌||◌, ◌&&◌, ◌==◌, if◌then◌else◌}
-use Rattle.std.proofs.lemmas.Bool.{cases_Bool, and_parts, or_parts}
+use Rattle.std.proofs.lemmas.Bool.{and_parts, cases_Bool, not-true, or_parts}
 use Rattle.std.specs.List.{list_all, slice_split}
 use Rattle.command_text.specs.Fields.{before_end_quote, field_of, fields_of_line, fields_of_pieces, first_of_many, has_quote, is_bare, is_readable, without_quotes}
 use Rattle.command_text.proofs.BareLines.{bare_is_readable, no_quote}
@@ -112,10 +112,6 @@ parts (b ∷ bs) = elim (cases_Bool (nat_eq b 44)) [
 abbrev without : List ℕ → Bool
 without piece = not (has_quote piece)
 
-not_so : (test : Bool) → not test ≡ true → test ≡ false
-not_so true e = absurd (true≢false (sym e))
-not_so false e = refl
-
 no_quotes : (line : List ℕ) → has_quote line ≡ false → list_all without (split line) ≡ true
 no_quotes [] none = refl
 no_quotes (b ∷ bs) none =
@@ -132,7 +128,7 @@ no_quotes (b ∷ bs) none =
 own_field : (piece : List ℕ) → without piece ≡ true → is_some (field_of piece) ≡ true
 own_field [] plain = refl
 own_field (b ∷ bs) plain =
-    let each = or_parts (b == 34) (has_quote bs) (not_so (has_quote (b ∷ bs)) plain) in
+    let each = or_parts (b == 34) (has_quote bs) (not-true (has_quote (b ∷ bs)) plain) in
     ap (λ q. is_some (if q then before_end_quote bs else (if has_quote bs then None else Some (b ∷ bs)))) each.0
     ∙ ap (λ q. is_some (if q then None else Some (b ∷ bs))) each.1
 

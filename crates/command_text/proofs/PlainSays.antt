@@ -16,15 +16,6 @@ either_none (Some (Range place)) = refl
 abbrev fault_at : List (List ℕ) → Asked → Option Fault
 fault_at fields asked = fault_of (0 + asked.place) (says_in fields asked)
 
--- a line of a word and one number
-pub one_says : (fields : List (List ℕ)) (asked : Asked) (fault : Option Fault) (v : ℕ) → length fields ≡ 2 → fault ≡ fault_at fields asked → v ≡ natural_in fields asked
-    → unless fault v ≡ (if length fields == 2 then unless (fault_in 0 (asked ∷ []) fields) (natural_in fields asked) else Err Syntax)
-one_says fields asked fault v two wrong is =
-    let inside : (length fields == 2) ≡ true = grind (arith, nat_tests) in
-    let said : Option Fault → Result ℕ Fault = λ f. unless f (natural_in fields asked) in
-    (λ i. unless (wrong i) (is i)) ∙ ap said (sym (either_none (fault_at fields asked)))
-    ∙ sym (ap (λ b. if b then said (fault_in 0 (asked ∷ []) fields) else Err Syntax) inside)
-
 -- a line of a word and two numbers
 pub two_say : (fields : List (List ℕ)) (first next : Asked) (fault : Option Fault) (v w : ℕ) → length fields ≡ 3 → fault ≡ either_fault (fault_at fields first) (fault_at fields next)
     → v ≡ natural_in fields first → w ≡ natural_in fields next

@@ -5,6 +5,7 @@ use Rattle.std.specs.List.{list_any}
 use Rattle.std.specs.Prelude.{position}
 use Rattle.std.specs.Str.{bytes_eq}
 use Rattle.std.proofs.lemmas.Slice.Eq.{bytes_eq-Decides}
+use Rattle.std.proofs.lemmas.Bool.{or_right}
 use Rattle.form.specs.declared.orders.Side.{Side}
 use Rattle.form.specs.declared.orders.Side.TheVariants.{Buy, Sell}
 use Rattle.command_text.specs.declared.asked.Fault.{Fault}
@@ -134,16 +135,12 @@ found : (words : List LineWord) (text : List ℕ) (w : LineWord) → word_among 
 found [] text w e = absurd (cc)
 found (first ∷ words) text w e = by_first first w text (word_among words text) (bytes_eq text (word_text first)) refl (found words text w) e
 
-or_any : (b rest : Bool) → rest ≡ true → (b || rest) ≡ true
-or_any true rest any = refl
-or_any false rest any = any
-
 more_any : (test : LineWord → Bool) (first w : LineWord) (rest : Option LineWord) (words : List LineWord) (same : Bool) → test w ≡ true → (rest ≡ Some w → list_any test words ≡ true)
     → (if same then Some first else rest) ≡ Some w → (test first || list_any test words) ≡ true
 more_any test first w rest words true is later e =
     let own : first ≡ w = cc in
     ap (λ b. b || list_any test words) (ap test own ∙ is)
-more_any test first w rest words false is later e = or_any (test first) (list_any test words) (later e)
+more_any test first w rest words false is later e = or_right (test first) (list_any test words) (later e)
 
 found_any : (test : LineWord → Bool) (words : List LineWord) (text : List ℕ) (w : LineWord) → test w ≡ true → word_among words text ≡ Some w → list_any test words ≡ true
 found_any test [] text w is e = absurd (cc)
@@ -176,7 +173,7 @@ proposes word.Propose e = refl
 first_proposes : (test : LineWord → Bool) (first : LineWord) (words : List LineWord) (b : Bool) → is_propose first ≡ b → test word.Propose ≡ true
     → (list_any is_propose words ≡ true → list_any test words ≡ true) → (b || list_any is_propose words) ≡ true → (test first || list_any test words) ≡ true
 first_proposes test first words true own is later any = ap (λ b. b || list_any test words) (ap test (proposes first own) ∙ is)
-first_proposes test first words false own is later any = or_any (test first) (list_any test words) (later any)
+first_proposes test first words false own is later any = or_right (test first) (list_any test words) (later any)
 
 any_proposes : (test : LineWord → Bool) (words : List LineWord) → test word.Propose ≡ true → list_any is_propose words ≡ true → list_any test words ≡ true
 any_proposes test [] is any = absurd (true≢false (sym any))

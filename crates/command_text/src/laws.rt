@@ -1,4 +1,5 @@
 //! Laws over the definitions: each is the contract of a function that does nothing.
+ghost use Rattle.command_text.specs.Asked.{RangeIsFirstOutside, SyntaxIsNoNumber};
 ghost use Rattle.command_text.specs.Worked.{LimitsAsWorked, LinesAsWorked, RequestsAsWorked};
 
 /// What lines say, and how an input is cut into lines: worked rows.
@@ -16,4 +17,11 @@ pub fn limits_as_worked()
 /// of the program take: worked rows.
 pub fn requests_as_worked()
     ensures { RequestsAsWorked }
+{}
+
+/// Which fault the numbers of a line have: Syntax exactly where one is no number text, and else
+/// Range at the place of the first that is out of its range.
+pub fn faults_are_exact()
+    ensures syntax { SyntaxIsNoNumber }
+    ensures range { RangeIsFirstOutside }
 {}

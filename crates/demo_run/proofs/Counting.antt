@@ -1,14 +1,13 @@
 -- A reply more is counted.
-use Rattle.std.proofs.Common.{refl, ◌≡◌, ℕ, ◌+◌, ◌<◌, List, [], ◌∷◌, ◌++◌, length, length-append, Bool, true, cond, arith}
+use Rattle.std.proofs.Common.{refl, ◌≡◌, ℕ, ◌+◌, List, [], ◌∷◌, ◌++◌, length, length-append, Bool, true, cond, arith}
 use Rattle.std.specs.List.{count_by, sum_by}
-use Rattle.std.proofs.lemmas.List.Sums.{count_by-le-length, sum_by-append, sum_by-cons}
+use Rattle.std.proofs.lemmas.List.Sums.{sum_by-append, sum_by-cons}
 use Rattle.cert_check.specs.declared.outcome.Mark.{Mark}
 use Rattle.cert_check.specs.declared.outcome.Mark.TheVariants.{Optimal, Wide, Budget}
 use Rattle.reply_print.specs.declared.replies.Reply.{Reply}
 use Rattle.reply_print.specs.declared.replies.Reply.TheVariants.{Opened, Deposited, Withdrawn, Listed, Placed, Cancelled, Cleared, Settled, Balance, Refused}
-use Rattle.demo_run.specs.declared.tally.Tally.{Tally}
 use Rattle.cert_check.specs.Conditions.{is_optimal_mark}
-use Rattle.demo_run.specs.Tally.{tally_of, is_cleared, is_wide, is_budget, is_refused, IsBelow, RepliesAreCounted, MarksAreCounted}
+use Rattle.demo_run.specs.Tally.{is_cleared, is_wide, is_budget, is_refused, RepliesAreCounted, MarksAreCounted}
 
 one_more : (test : Reply → Bool) (replies : List Reply) (reply : Reply) → count_by test (replies ++ reply ∷ []) ≡ count_by test replies + cond (test reply) 1 0
 one_more test replies reply = let e = sum_by-append (λ (r : Reply). cond (test r) 1 0) replies (reply ∷ []) in omega arith
@@ -24,20 +23,6 @@ replies_are_counted replies reply =
       budget = one_more (is_cleared is_budget) replies reply i;
       refused = one_more is_refused replies reply i;
     }
-
--- each count is at most that of the replies
-counted_below : (test : Reply → Bool) (limit : ℕ) (replies : List Reply) → length replies < limit → count_by test replies < limit
-counted_below test limit replies few = let le = count_by-le-length test replies in omega arith
-
-pub tally_below : (limit : ℕ) (replies : List Reply) (tally : Tally) → tally ≡ tally_of replies → length replies < limit → IsBelow limit tally
-tally_below limit replies tally e few = rw e (record {
-  lines = few;
-  batches = counted_below (is_cleared (λ mark. true)) limit replies few;
-  optimal = counted_below (is_cleared is_optimal_mark) limit replies few;
-  wide = counted_below (is_cleared is_wide) limit replies few;
-  budget = counted_below (is_cleared is_budget) limit replies few;
-  refused = counted_below is_refused limit replies few;
-})
 
 of_mark : (mark : Mark) → 1 ≡ cond (is_optimal_mark mark) 1 0 + cond (is_wide mark) 1 0 + cond (is_budget mark) 1 0
 of_mark (Optimal cover measure) = refl

@@ -1,5 +1,5 @@
 -- How far a run has come with its replies.
-use Rattle.std.proofs.Common.{◌≡◌, ℕ, ◌+◌, ◌<◌, List, [], ◌∷◌, ◌++◌, length, get_or, drop, subst, append-nil, append_assoc, length-append, refl, ap, sym, ◌∙◌, arith}
+use Rattle.std.proofs.Common.{◌≡◌, ℕ, ◌+◌, ◌<◌, List, [], ◌∷◌, ◌++◌, length, get_or, drop, subst, append-nil, append_assoc, length-append, ap, sym, ◌∙◌, arith}
 use Rattle.std.proofs.lemmas.List.{drop_more}
 use Rattle.command_text.specs.declared.command.Line.{Line}
 use Rattle.reply_print.specs.declared.replies.Reply.{Reply}
@@ -19,9 +19,6 @@ pub record HasReplied (start now : ExchangeState) (all left : List Line) (tally 
   pub counted : tally ≡ tally_of replies
   pub few : length replies + length left ≡ length all
   pub joined : replies_from start all ≡ behind replies (replies_from now left)
-
-pub begins : (start : ExchangeState) (all : List Line) → HasReplied start start all all (tally_of [])
-begins start all = record { replies = []; counted = refl; few = omega arith; joined = refl }
 
 pub goes_on : (start now next : ExchangeState) (all left : List Line) (line : Line) (tally : Tally) (reply : Reply) → HasReplied start now all (line ∷ left) tally → (reply, next) ≡ reply_to now line.body
     → HasReplied start next all left (with_reply reply tally)

@@ -34,11 +34,6 @@ weights_size First = omega arith
 weights_size Second = omega arith
 weights_size Both = omega arith
 
-step_size : (weights : Weights) → strike_step weights ≤ 200
-step_size First = omega arith
-step_size Second = omega arith
-step_size Both = omega arith
-
 -- a strike that is drawn has at most four digits
 strike_size : (x : ℕ) (weights : Weights) → (8 + drawn 5 5 x) * strike_step weights < 10000
 strike_size x First = let lt = mod_below (after 5 x / 2 ^ 33) 5 (omega arith) in omega arith

@@ -1,12 +1,11 @@
 -- Fractions over a common denominator.
-use Rattle.std.proofs.Common.{◌≡◌, ℕ, ◌*◌, ◌≤◌, List, [], ◌∷◌, get_or, arith, ℤ, pos, ◌+ℤ◌, ◌*ℤ◌, ◌≤ℤ◌, All, ap}
+use Rattle.std.proofs.Common.{ℕ, ◌*◌, ◌≤◌, List, [], ◌∷◌, get_or, arith, ℤ, pos, ◌+ℤ◌, ◌*ℤ◌, ◌≤ℤ◌, All, ap}
 use Rattle.std.proofs.lemmas.Int.{ints}
-use Rattle.std.proofs.lemmas.List.Elements.{All-nil, All-cons}
+use Rattle.std.proofs.lemmas.List.Elements.{All-cons, All-head, All-nil, All-tail}
 use Rattle.std.specs.Int.{◌∣◌}
 use native.Mathlib.Nat.{mul-le-mul_left, dvd-mul_right, dvd-mul_left_of_dvd, mul-div_cancel'}
 use Rattle.arithmetic.proofs.Integers.{*ℤ_mono, *ℤ_cancel, *ℤ_cancel_le}
 use Rattle.arithmetic.proofs.Products.{products}
-use Rattle.arithmetic.proofs.Sums.{All-head, All-tail}
 use Rattle.exact_num.specs.Fraction.{Fraction, IsDefined, IsSameValue, AtMost, plain_sum}
 use Rattle.exact_num.specs.CommonDenominator.{common_denominator, amount_over, IsRatio, EachIsItsAmount}
 
@@ -25,12 +24,6 @@ is_ratio_sum a b c x y F p q s ra rb =
       ap (λ w. w *ℤ pos (b.denominator * c.denominator)) ra,
       ap (λ w. w *ℤ pos (a.denominator * c.denominator)) rb,
     ))
-
--- c has the value of a * h
-pub is_ratio_scale : (a c : Fraction) (x : ℤ) (h F : ℕ) → IsDefined a → c.numerator *ℤ pos a.denominator ≡ (a.numerator *ℤ pos h) *ℤ pos c.denominator → IsRatio a x F → IsRatio c (x *ℤ pos h) F
-is_ratio_scale a c x h F p s r =
-    *ℤ_cancel a.denominator (c.numerator *ℤ pos F) ((x *ℤ pos h) *ℤ pos c.denominator) p
-    (omega (arith, ints, products, ap (λ w. w *ℤ pos F) s, ap (λ w. w *ℤ pos (h * c.denominator)) r))
 
 -- an order between fractions is the one between what stands over F
 pub at_most_from : (a b : Fraction) (x y : ℤ) (F : ℕ) → 1 ≤ F → IsRatio a x F → IsRatio b y F → x ≤ℤ y → AtMost a b

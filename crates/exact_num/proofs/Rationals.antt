@@ -378,7 +378,7 @@ signed_not_below : (n : ℤ) (d : ℕ) → pos 0 <ℤ n → pos 0 ≤ℤ signed_
 signed_not_below (pos n) d h = omega (arith, ints)
 signed_not_below (negsuc n) d h = absurd (omega (arith, ints, h))
 
-above_not_zero : (n : ℤ) → pos 0 <ℤ n → n ≢ pos 0
+pub above_not_zero : (n : ℤ) → pos 0 <ℤ n → n ≢ pos 0
 above_not_zero n h e = omega (arith, ints, h, e)
 
 pub above_is_not_zero : (x : Q) → IsAbove0 x → x.fraction.numerator ≢ pos 0

@@ -1,14 +1,13 @@
 -- What fits a limit is within it.
-use Rattle.std.proofs.Common.{◌≡◌, ℕ, ◌≤◌, ℤ, pos, unsigned_abs, sym, subst}
+use Rattle.std.proofs.Common.{◌≡◌, ℕ, ◌≤◌, ℤ, unsigned_abs, sym, subst}
 use Rattle.std.specs.Prelude.{Ok}
-use Rattle.std.proofs.lemmas.Bool.{leb-true}
 use Rattle.arithmetic.proofs.Integers.{unsigned_abs-neg}
 use Rattle.exact_num.specs.declared.misfit.Operator.TheVariants as operator
 use Rattle.exact_num.specs.Fraction.{Fraction, whole, negated}
-use Rattle.exact_num.specs.Fits.{size_fits, misfit, sum_fits, sum_value, add_of, product_fits, product_value, div_of, inverse, whole_of}
+use Rattle.exact_num.specs.Fits.{misfit, sum_fits, sum_value, add_of}
 use Rattle.exact_num.specs.Laws.{IsWithin}
 use Rattle.exact_num.proofs.Answered.{answer_is}
-use Rattle.exact_num.proofs.Exactness.{sum_within, product_within}
+use Rattle.exact_num.proofs.Exactness.{sum_within}
 
 pub whole_within : (l : ℕ) (v : ℤ) → 1 ≤ l → unsigned_abs v ≤ l → IsWithin l (whole v)
 whole_within l v one low = record { above = low; below = one }
@@ -21,15 +20,3 @@ unfolding add_of
 add_within l x y s e =
     let is = answer_is (sum_fits l x y) (sum_value x y) s (misfit operator.Add x y) e in
     subst (IsWithin l) is.value (sum_within l x y is.passed)
-
-pub div_within : (l : ℕ) (x y s : Fraction) → div_of l x y ≡ Ok s → IsWithin l s
-unfolding div_of
-div_within l x y s e =
-    let is = answer_is (product_fits l x (inverse y)) (product_value x (inverse y)) s (misfit operator.Div x y) e in
-    subst (IsWithin l) is.value (product_within l x (inverse y) is.passed)
-
-pub taken_within : (l : ℕ) (v : ℤ) (s : Fraction) → 1 ≤ l → whole_of l v ≡ Ok s → IsWithin l s
-unfolding whole_of
-taken_within l v s one e =
-    let is = answer_is (size_fits l v) (whole v) s (misfit operator.Whole (whole v) (whole (pos 0))) e in
-    subst (IsWithin l) is.value (whole_within l v one (leb-true (unsigned_abs v) l is.passed))

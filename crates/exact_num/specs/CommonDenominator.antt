@@ -25,9 +25,6 @@ amounts_of fs = amounts_over (common_denominator fs) fs
 abbrev pub signed_amounts_over : ℕ → List Fraction → List ℤ
 signed_amounts_over F fs = map (amount_over F) fs
 
-abbrev pub signed_amounts_of : List Fraction → List ℤ
-signed_amounts_of fs = signed_amounts_over (common_denominator fs) fs
-
 -- f is x / F
 abbrev pub IsRatio : Fraction → ℤ → ℕ → Type 0
 IsRatio f x F = f.numerator *ℤ pos F ≡ x *ℤ pos f.denominator

@@ -42,23 +42,6 @@ book_alike from_book.TooMany = record { alike = inr (refl, TooMany, refl) }
 book_alike from_book.Memory = record { alike = inl (refl, refl, refl) }
 
 -- ---- want of memory above is want of memory below
-pub ledger_memory : (error : LedgerRefusal) → ledger_failure error ≡ failure.Memory → error ≡ from_ledger.Memory
-ledger_memory from_ledger.NoAccount is = cc
-ledger_memory from_ledger.AccountExists is = cc
-ledger_memory from_ledger.Funds is = cc
-ledger_memory from_ledger.TooMany is = cc
-ledger_memory from_ledger.Memory is = refl
-
-pub book_memory : (error : BookRefusal) → book_failure error ≡ failure.Memory → error ≡ from_book.Memory
-book_memory from_book.NoMarket is = cc
-book_memory from_book.MarketExists is = cc
-book_memory from_book.Settled is = cc
-book_memory from_book.WeightCount is = cc
-book_memory from_book.BookFull is = cc
-book_memory from_book.NoOrder is = cc
-book_memory from_book.NotOwner is = cc
-book_memory from_book.TooMany is = cc
-book_memory from_book.Memory is = refl
 
 -- and where the book refuses nothing, no more than that is left
 pub only_memory : (error : BookRefusal) → book_refusals.unless_memory error ≡ None → book_failure error ≡ failure.Memory

@@ -1,9 +1,9 @@
 -- The live orders of an account among one more of a market's.
-use Rattle.std.proofs.Common.{◌≡◌, ℕ, ◌+◌, List, [], ◌∷◌, ◌++◌, Bool, true, false, cond, filter, take, nat_eq, Some, slice_get, arith, ap, ◌∙◌}
-use Rattle.std.proofs.lemmas.Bool.Decides.{nat_tests}
+use Rattle.std.proofs.Common.{◌≡◌, ℕ, ◌+◌, List, [], ◌∷◌, ◌++◌, Bool, true, false, cond, filter, take, Some, slice_get, ap, ◌∙◌}
 use Rattle.std.proofs.lemmas.List.{append-nil}
 use Rattle.std.proofs.lemmas.List.Elements.{filter_more}
 use Rattle.std.proofs.lemmas.Option.{get_or_from_slice_get, slice_get_within}
+use Rattle.std.proofs.lemmas.Bool.{eq-eqb, ne_eqb}
 use Rattle.form.specs.declared.orders.Order.{Order}
 use Rattle.exchange_core.specs.Held.{is_order_of}
 
@@ -17,14 +17,8 @@ module _ (account : ℕ) (live : List Order) (place : ℕ) (order : Order) (ther
       ∙ ap (λ (o : Order). own ++ cond (is_order_of account o) (o ∷ []) []) (get_or_from_slice_get live place order order there)
       ∙ ap (λ (b : Bool). own ++ cond b (order ∷ []) []) is
 
-  is_own : (n m : ℕ) → n ≡ m → nat_eq n m ≡ true
-  is_own n m e = grind (arith, nat_tests)
-
-  is_other : (n m : ℕ) → (n ≡ m → ⊥) → nat_eq n m ≡ false
-  is_other n m apart = grind (arith, nat_tests)
-
   pub order_more : order.account ≡ account → filter (is_order_of account) (take (place + 1) live) ≡ own ++ order ∷ []
-  order_more e = looked_at true (is_own order.account account e)
+  order_more e = looked_at true (eq-eqb order.account account e)
 
   pub order_apart : (order.account ≡ account → ⊥) → filter (is_order_of account) (take (place + 1) live) ≡ own
-  order_apart apart = looked_at false (is_other order.account account apart) ∙ append-nil own
+  order_apart apart = looked_at false (ne_eqb order.account account apart) ∙ append-nil own

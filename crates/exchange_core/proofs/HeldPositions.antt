@@ -3,14 +3,13 @@ use Rattle.std.proofs.Common.{◌≡◌, ℕ, ◌+◌, ◌≤◌, List, [], ◌�
 use Rattle.std.specs.List.{All}
 use Rattle.std.specs.Map.{lookup}
 use Rattle.std.specs.Option.{option_map_or}
-use Rattle.std.proofs.lemmas.Bool.{and_parts}
+use Rattle.std.proofs.lemmas.Bool.{and_parts, eqb-true}
 use Rattle.std.proofs.lemmas.List.Elements.{All-nil, All-cons, All-head, All-tail}
 use Rattle.form.specs.Payoff.{IsOnCount}
 use Rattle.order_book.specs.Book.{BookState, info_of, market_of}
 use Rattle.order_book.specs.declared.market.MarketInfo.{MarketInfo}
 use Rattle.order_book.specs.Markets.{MarketState}
 use Rattle.order_book.proofs.BookKept.{market_kept}
-use Rattle.order_book.proofs.MarketLists.{same_number}
 use Rattle.settlement.specs.declared.position.Position.{Position}
 use Rattle.settlement.specs.Positions.{IsHeldPosition}
 use Rattle.exchange_core.specs.ExchangeState.{ExchangeState}
@@ -27,7 +26,7 @@ held_have K P account market each (p ∷ ps) kept =
     by : (b : Bool) → is_held_by account market p ≡ b → All P (positions_of account market ps)
         → All P (if b then p ∷ positions_of account market ps else positions_of account market ps)
     by true e later =
-        let own = same_number p.market market (and_parts (nat_eq p.account account) (nat_eq p.market market) e).1 in
+        let own = eqb-true p.market market (and_parts (nat_eq p.account account) (nat_eq p.market market) e).1 in
         All-cons P p (positions_of account market ps) (each p (All-head K p ps kept) own) later
     by false e later = later
 

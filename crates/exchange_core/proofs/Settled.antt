@@ -3,11 +3,11 @@
 use Rattle.std.proofs.Common.{◌≡◌, ℕ, ◌+◌, ◌≤◌, List, [], ◌∷◌, Bool, true, false, cond, length, nat_eq, Some, refl, sym, ap, ◌∙◌, subst}
 use Rattle.std.specs.List.{All}
 use Rattle.std.proofs.lemmas.List.Elements.{All-nil, All-cons, All-head, All-tail, All-map, All-weaker}
+use Rattle.std.proofs.lemmas.Bool.{eqb-true}
 use Rattle.form.specs.Payoff.{IsOnCount}
 use Rattle.frac.specs.Value.{fraction_of}
 use Rattle.order_book.specs.Book.{BookState, market_of}
 use Rattle.order_book.specs.Markets.{MarketState}
-use Rattle.order_book.proofs.MarketLists.{same_number}
 use Rattle.limits.specs.declared.TheConstants.{MAX_SETTLEMENT_PRICE}
 use Rattle.settlement.specs.declared.position.Position.{Position}
 use Rattle.settlement.specs.Payout.{IsSettledAt}
@@ -42,7 +42,7 @@ module _ (accounts : List ℕ) (book : BookState) (market : ℕ) (m : MarketStat
       by : (b : Bool) → nat_eq p.market market ≡ b → All IsSettledOne (held_in market positions) → All IsSettledOne (cond b (p ∷ held_in market positions) (held_in market positions))
       by true is rest =
           let first = All-head IsKeptOne p positions kept in
-          All-cons IsSettledOne p (held_in market positions) (first, settled p first (same_number p.market market is)) rest
+          All-cons IsSettledOne p (held_in market positions) (first, settled p first (eqb-true p.market market is)) rest
       by false is rest = rest
 
   pub are_settled : (positions : List Position) → ArePositionsKept accounts book.markets positions → AreSettledAt market prices positions

@@ -3,6 +3,7 @@ use Rattle.std.proofs.Common.{◌≡◌, ℕ, ◌≤◌, List, [], ◌∷◌, �
 use Rattle.std.proofs.lemmas.Bool.Decides.{nat_tests}
 use Rattle.std.proofs.lemmas.Int.{ints}
 use Rattle.arithmetic.specs.Sums.{total}
+use Rattle.arithmetic.proofs.Tests.{nat_eq-turned}
 use Rattle.cash_ledger.specs.declared.entry.Cause.TheVariants.{Payoff}
 use Rattle.cash_ledger.specs.Entries.{balance_of}
 use Rattle.cash_ledger.proofs.Balances.{balance_of-append}
@@ -40,10 +41,6 @@ module _ (account : ℕ) (some : 1 ≤ account) where
   paid : (prices : List ℕ) (p : Position) → balance_of account (payoff_of (paid_out prices p)) ≡ if_own p.account (gain_at prices p)
   paid prices p = transferred p.account p.batch (gain_at prices p)
 
-  turned_test : (a b : ℕ) (t : Bool) → nat_eq a b ≡ t → nat_eq b a ≡ t
-  turned_test a b true e = grind (arith, nat_tests)
-  turned_test a b false e = grind (arith, nat_tests)
-
   -- ---- all of a market
   payoffs : (market : ℕ) (prices : List ℕ) (ps : List Position)
       → balance_of account (payoff_entries (payouts_of market prices ps)) ≡ total (gain_at prices) (positions_of account market ps)
@@ -51,7 +48,7 @@ module _ (account : ℕ) (some : 1 ≤ account) where
   payoffs market prices (p ∷ ps) = by (nat_eq p.market market) (nat_eq p.account account) refl (payoffs market prices ps)
     where
       first : (own : Bool) → nat_eq p.account account ≡ own → balance_of account (payoff_of (paid_out prices p)) ≡ (if own then gain_at prices p else pos 0)
-      first own e = paid prices p ∙ ap (λ b. if b then gain_at prices p else pos 0) (turned_test p.account account own e)
+      first own e = paid prices p ∙ ap (λ b. if b then gain_at prices p else pos 0) (nat_eq-turned p.account account own e)
 
       both : (own : Bool) → nat_eq p.account account ≡ own → balance_of account (payoff_entries (payouts_of market prices ps)) ≡ total (gain_at prices) (positions_of account market ps)
           → balance_of account (payoff_of (paid_out prices p) ++ payoff_entries (payouts_of market prices ps))

@@ -2,7 +2,7 @@
 use Rattle.std.proofs.Common.{◌≡◌, ℕ, ◌+◌, ◌≤◌, length, List, [], ◌++◌, Bool, true, false, not, nat_eq, Some, ◌⊎◌, inl, inr, ℤ, pos, ◌+ℤ◌, ◌-ℤ◌, ◌*ℤ◌, refl, sym, ap, ◌∙◌, subst, arith, true≢false, ⊎_elim}
 use Rattle.std.specs.Prelude.{⊤}
 use Rattle.std.specs.List.{All, zip}
-use Rattle.std.proofs.lemmas.Bool.{cases_eq, ne_eqb}
+use Rattle.std.proofs.lemmas.Bool.{cases_eq, eq-eqb, ne_eqb}
 use Rattle.std.proofs.lemmas.Int.{ints}
 use Rattle.std.proofs.lemmas.List.{append-nil}
 use Rattle.std.proofs.lemmas.List.Elements.{filter-append}
@@ -36,7 +36,7 @@ use Rattle.exchange_lines.proofs.Listings.{listed_in, listed-changed, listed-clo
 use Rattle.exchange_lines.proofs.ZeroPrices.{with_zero_prices}
 use Rattle.exchange_lines.proofs.Payouts.{all_made, gains_of_fills, held_for, is_held_for, paid_for}
 use Rattle.exchange_lines.proofs.GainReplies.{plain_settles}
-use Rattle.exchange_lines.proofs.RunStates.{IsRunning, apart_above, cleared_another, none_to_come, same, settled_entries, settled_nothing}
+use Rattle.exchange_lines.proofs.RunStates.{IsRunning, apart_above, cleared_another, none_to_come, settled_entries, settled_nothing}
 use Rattle.exchange_lines.proofs.GainSteps.{IsQuiet, IsClear, IsSettle, StepsTo}
 
 -- ---- the positions of a batch among others
@@ -51,13 +51,13 @@ module _ (market number : ℕ) (orders : List Order) (fills : List Frac128) wher
   new_positions = positions_in market number orders fills
 
   new_for : (q : ℕ) → number ≡ q → held_for q new_positions ≡ new_positions
-  new_for q e = filter_all (is_held_for q) new_positions (all_made (λ p. is_held_for q p ≡ true) IsAny market number (λ order fill h. same number q e) orders fills (any orders))
+  new_for q e = filter_all (is_held_for q) new_positions (all_made (λ p. is_held_for q p ≡ true) IsAny market number (λ order fill h. eq-eqb number q e) orders fills (any orders))
 
   new_for_none : (q : ℕ) → nat_eq number q ≡ false → held_for q new_positions ≡ []
   new_for_none q e = filter_none (is_held_for q) new_positions (all_made (λ p. is_held_for q p ≡ false) IsAny market number (λ order fill h. e) orders fills (any orders))
 
   new_inside : (q : ℕ) → market ≡ q → held_in q new_positions ≡ new_positions
-  new_inside q e = filter_all (is_of q) new_positions (all_made (λ p. is_of q p ≡ true) IsAny market number (λ order fill h. same market q e) orders fills (any orders))
+  new_inside q e = filter_all (is_of q) new_positions (all_made (λ p. is_of q p ≡ true) IsAny market number (λ order fill h. eq-eqb market q e) orders fills (any orders))
 
   new_inside_none : (q : ℕ) → nat_eq market q ≡ false → held_in q new_positions ≡ []
   new_inside_none q e = filter_none (is_of q) new_positions (all_made (λ p. is_of q p ≡ false) IsAny market number (λ order fill h. e) orders fills (any orders))
@@ -66,7 +66,7 @@ module _ (market number : ℕ) (orders : List Order) (fills : List Frac128) wher
   new_outside q e = filter_all (λ p. not (is_of q p)) new_positions (all_made (λ p. not (is_of q p) ≡ true) IsAny market number (λ order fill h. ap not e) orders fills (any orders))
 
   new_outside_none : (q : ℕ) → market ≡ q → outside q new_positions ≡ []
-  new_outside_none q e = filter_none (λ p. not (is_of q p)) new_positions (all_made (λ p. not (is_of q p) ≡ false) IsAny market number (λ order fill h. ap not (same market q e)) orders fills (any orders))
+  new_outside_none q e = filter_none (λ p. not (is_of q p)) new_positions (all_made (λ p. not (is_of q p) ≡ false) IsAny market number (λ order fill h. ap not (eq-eqb market q e)) orders fills (any orders))
 
   -- those of another batch, put behind
   held_behind : (q : ℕ) → nat_eq number q ≡ false → (positions : List Position) → held_for q (positions ++ new_positions) ≡ held_for q positions

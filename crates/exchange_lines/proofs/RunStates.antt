@@ -1,6 +1,6 @@
 -- What holds between the steps of a run: of each state, of a batch until its market is settled, and
 -- of it from then on.
-use Rattle.std.proofs.Common.{◌≡◌, ℕ, ◌+◌, ◌<◌, ◌≤◌, List, [], ◌++◌, true, false, not, nat_eq, ◌⊎◌, inl, inr, pos, ◌+ℤ◌, ◌-ℤ◌, refl, sym, ap, ◌∙◌, subst, arith}
+use Rattle.std.proofs.Common.{◌≡◌, ℕ, ◌+◌, ◌<◌, ◌≤◌, List, [], ◌++◌, false, not, nat_eq, ◌⊎◌, inl, inr, pos, ◌+ℤ◌, ◌-ℤ◌, refl, sym, ap, ◌∙◌, subst, arith}
 use Rattle.std.specs.List.{All}
 use Rattle.std.proofs.lemmas.Bool.Decides.{nat_tests}
 use Rattle.std.proofs.lemmas.Int.{ints}
@@ -27,8 +27,6 @@ use Rattle.exchange_lines.proofs.Payouts.{all_made, held_for, is_held_for, paid_
 use Rattle.exchange_lines.proofs.GainSteps.{IsTrader, IsQuiet, IsClear, IsSettle, StepsTo}
 
 -- ---- tests
-pub same : (a b : ℕ) → a ≡ b → nat_eq a b ≡ true
-same a b e = grind (arith, nat_tests)
 
 apart_below : (a b : ℕ) → a < b → nat_eq a b ≡ false
 apart_below a b lt = grind (arith, nat_tests)

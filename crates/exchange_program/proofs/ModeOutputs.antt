@@ -9,7 +9,7 @@ use Rattle.guarded_lines.specs.Output.{guarded_line}
 use Rattle.live_lines.specs.Output.{output_of, places_output}
 use Rattle.program_words.specs.declared.requests.Mode.{Mode}
 use Rattle.program_words.specs.declared.requests.Mode.TheVariants.{Run, Quotes, Guarded}
-use Rattle.proposal_lines.proofs.Outputs.{outputs_are_of_lines}
+use Rattle.served_members.proofs.ProposalOutputs.{outputs_are_of_lines}
 use Rattle.quote_lines.specs.Output.{quotes_line}
 use Rattle.exchange_program.specs.Modes.{mode_output, mode_step, step_in}
 

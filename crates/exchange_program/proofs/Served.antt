@@ -12,9 +12,9 @@ use Rattle.demo_run.specs.Demo.{demo_output}
 use Rattle.exchange_lines.specs.Promises.{TellAnswers}
 use Rattle.exchange_lines.proofs.AsRun.{runs_tell_answers}
 use Rattle.asked_lines.proofs.Apart.{tells_beside}
-use Rattle.secured_lines.specs.Asked.{secured_asks}
-use Rattle.secured_lines.specs.Output.{secured_line}
-use Rattle.secured_lines.specs.SecuredState.{empty_secured}
+use Rattle.served_members.specs.SecuredAsked.{secured_asks}
+use Rattle.served_members.specs.SecuredOutput.{secured_line}
+use Rattle.served_members.specs.SecuredState.{empty_secured}
 use Rattle.served_members.specs.Lines.{TellServed}
 use Rattle.served_members.proofs.LinesKept.{outputs_tell_served}
 use Rattle.exchange_sessions.specs.Answers.{sessions_output}

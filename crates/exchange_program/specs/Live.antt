@@ -11,9 +11,9 @@ use Rattle.exchange_sessions.specs.Members.{TellMembersOnce, all_members_output}
 use Rattle.live_lines.specs.Serving.{Counts, IsServed, Known}
 use Rattle.program_words.specs.declared.requests.Served.{Served}
 use Rattle.program_words.specs.declared.requests.Served.TheVariants.{Lines, Members, Sessions}
-use Rattle.secured_lines.specs.Asked.{asked_output, secured_asks}
-use Rattle.secured_lines.specs.Output.{secured_line}
-use Rattle.secured_lines.specs.SecuredState.{empty_secured}
+use Rattle.served_members.specs.SecuredAsked.{asked_output, secured_asks}
+use Rattle.served_members.specs.SecuredOutput.{secured_line}
+use Rattle.served_members.specs.SecuredState.{empty_secured}
 use Rattle.served_members.specs.Lines.{TellServed}
 use Rattle.exchange_program.specs.declared.status.Status.{Status}
 use Rattle.exchange_program.specs.declared.status.Status.TheVariants.{Done, ReadFault, WriteFault, TooLong, Memory}

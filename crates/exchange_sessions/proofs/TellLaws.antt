@@ -8,7 +8,7 @@ use Rattle.exchange_lines.specs.Promises.{IsNoText, TellAnswers}
 use Rattle.exchange_lines.proofs.AsRun.{runs_are_by_lines, runs_tell_answers}
 use Rattle.reply_print.specs.ReplyPieces.{reply_line}
 use Rattle.live_lines.specs.Output.{output_of}
-use Rattle.proposal_lines.proofs.Outputs.{outputs_are_of_lines}
+use Rattle.served_members.proofs.ProposalOutputs.{outputs_are_of_lines}
 use Rattle.session_gate.specs.Runs.{Replies}
 use Rattle.session_lines.specs.Answers.{answers_by}
 use Rattle.session_lines.specs.Laws.{TellOnce, accepted_bodies, accepted_messages, as_input, replies_text, told_first}
@@ -18,13 +18,13 @@ use Rattle.session_lines.proofs.ReplyLaws.{bodies_are}
 use Rattle.session_lines.proofs.Served.{feed_again}
 use Rattle.session_lines.proofs.SessionOutputs.{outputs_tell_once}
 use Rattle.session_lines.proofs.TellLaws.{tells_once}
-use Rattle.secured_lines.specs.Output.{secured_line, secured_output}
-use Rattle.secured_lines.specs.SecuredState.{empty_secured}
-use Rattle.secured_lines.proofs.Ends as secured
+use Rattle.served_members.specs.SecuredOutput.{secured_line, secured_output}
+use Rattle.served_members.specs.SecuredState.{empty_secured}
+use Rattle.served_members.proofs.SecuredEnds as secured
 use Rattle.asked_lines.proofs.Apart.{tells_beside}
-use Rattle.member_lines.proofs.MayAsk.{others_may_not_ask}
-use Rattle.proposal_lines.proofs.Telling.{empty_is_sound}
-use Rattle.secured_lines.specs.Asked.{said_asks, secured_asks}
+use Rattle.served_members.proofs.MayAsk.{others_may_not_ask}
+use Rattle.served_members.proofs.ProposalTelling.{empty_is_sound}
+use Rattle.served_members.specs.SecuredAsked.{said_asks, secured_asks}
 use Rattle.served_members.specs.Laws.{ArePaying, AreSecured, after_all}
 use Rattle.served_members.specs.Lines.{TellServed}
 use Rattle.served_members.specs.Members.{ServedMembers, empty_members, member_body, member_question, members_output}
@@ -108,7 +108,7 @@ ruled messages are =
       lowers = free_lines_lower_nothing;
       moves = members_move_by_rule.moves 1 empty_members bodies empty_is_sound;
       throughout = members_are_ruled bodies;
-      secured = subst AreSecured (sym same) (members_are_secured 1 empty_members bodies none_owned);
+      secured = subst AreSecured (sym same) (members_are_secured.members 1 empty_members bodies none_owned);
       paying = subst ArePaying (sym same) (members_can_pay bodies);
     }
 

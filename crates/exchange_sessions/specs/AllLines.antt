@@ -1,9 +1,9 @@
 -- Messages whose bodies are lines of any kind, proposals and phases among them, each answered
 -- between two reads; between them sessions may ask.
 use Rattle.std.specs.Prelude.{ℕ, List}
-use Rattle.secured_lines.specs.Asked.{secured_asks}
-use Rattle.secured_lines.specs.Output.{secured_line, secured_output}
-use Rattle.secured_lines.specs.SecuredState.{empty_secured}
+use Rattle.served_members.specs.SecuredAsked.{secured_asks}
+use Rattle.served_members.specs.SecuredOutput.{secured_line, secured_output}
+use Rattle.served_members.specs.SecuredState.{empty_secured}
 use Rattle.served_members.specs.Lines.{TellServed}
 use Rattle.session_lines.specs.Questions.{any_asks}
 use Rattle.session_lines.specs.Served.{reply_by}

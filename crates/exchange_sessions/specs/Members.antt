@@ -4,11 +4,11 @@ use Rattle.std.specs.Prelude.{◌≡◌, ℕ, List, map, Err}
 use Rattle.command_text.specs.declared.asked.Fault.{Fault}
 use Rattle.command_text.specs.declared.words.TheConstants.{SERVED}
 use Rattle.command_text.specs.Said.{said_in}
-use Rattle.member_lines.specs.Asked.{OthersMayNotAsk}
-use Rattle.member_lines.specs.Laws.{AreAsServed, AreSaidByRule, SaidBody}
-use Rattle.secured_lines.specs.Asked.{said_asks}
-use Rattle.secured_lines.specs.Output.{secured_said}
-use Rattle.secured_lines.specs.SecuredState.{empty_secured, exchange_in, with_opened}
+use Rattle.served_members.specs.MembersAsked.{OthersMayNotAsk}
+use Rattle.served_members.specs.MemberLaws.{AreAsServed, AreSaidByRule, SaidBody}
+use Rattle.served_members.specs.SecuredAsked.{said_asks}
+use Rattle.served_members.specs.SecuredOutput.{secured_said}
+use Rattle.served_members.specs.SecuredState.{empty_secured, exchange_in, with_opened}
 use Rattle.served_members.specs.Laws.{ArePaying, AreSecured, members_after}
 use Rattle.served_members.specs.Members.{ServedMembers, empty_members, member_body, member_question, members_output}
 use Rattle.served_members.specs.Promises.{AllowedTell, FreeLinesLowerNothing}

@@ -3,8 +3,8 @@ use Rattle.std.proofs.Common.{◌≡◌, Bool, true, ◌&&◌, nat_eq, map, take
 use Rattle.std.proofs.lemmas.Bool.Decides.{Decides-int_eq, nat_tests}
 use Rattle.std.specs.Ordering.{int_eq}
 use lib.Pointwise.{pointwise, pointwise_decides}
-use Rattle.std.proofs.lemmas.Bool.{and_parts}
-use Rattle.arithmetic.proofs.Tests.{and_true, both_so}
+use Rattle.std.proofs.lemmas.Bool.{and_from, and_parts}
+use Rattle.arithmetic.proofs.Tests.{both_so}
 use Rattle.form.specs.declared.forms.Form.{Form}
 use Rattle.form.specs.declared.legs.Leg.{Leg}
 use Rattle.form.specs.declared.bundles.Bundle.{Bundle}
@@ -35,7 +35,7 @@ legs_alike a b h =
     λ i. record { count = count i; form = form i }
 
 leg_itself : (a : Leg) → legs_test a a ≡ true
-leg_itself a = and_true _ _ ((Decides-int_eq a.count a.count).1 refl) (form_itself a.form)
+leg_itself a = and_from _ _ ((Decides-int_eq a.count a.count).1 refl) (form_itself a.form)
 
 legs_decide : (a b : Leg) → (legs_test a b ≡ true → a ≡ b) × (a ≡ b → legs_test a b ≡ true)
 legs_decide a b = (legs_alike a b, λ e. subst (λ x. legs_test a x ≡ true) e (leg_itself a))
@@ -48,7 +48,7 @@ bundles_equal a b = both_so _ _ same alike
     alike h =
         let is : a ≡ b = bundle_is_legs a b (same_bundle_is (bundle_legs a) (bundle_legs b) h) in
         let sizes : nat_eq a.size b.size ≡ true = let e = ap (λ (x : Bundle). x.size) is in grind (arith, nat_tests) in
-        and_true _ _ sizes ((pointwise_decides legs_decide a.legs b.legs).1 (ap (λ (x : Bundle). x.legs) is))
+        and_from _ _ sizes ((pointwise_decides legs_decide a.legs b.legs).1 (ap (λ (x : Bundle). x.legs) is))
 
     same : (nat_eq a.size b.size && pointwise legs_test a.legs b.legs) ≡ true → is_same_bundle (bundle_legs a) (bundle_legs b) ≡ true
     same h =

@@ -1,10 +1,10 @@
 -- The payoff of a bundle, leg by leg.
-use Rattle.std.proofs.Common.{◌≡◌, ℕ, zero, suc, ◌+◌, ◌<◌, List, [], ◌∷◌, length, map, take, get_or, add-one, ℤ, pos, ◌+ℤ◌, ◌*ℤ◌, Ok, sym, ap, ◌∙◌, arith}
+use Rattle.std.proofs.Common.{◌≡◌, ℕ, ◌+◌, List, [], ◌∷◌, ℤ, pos, ◌+ℤ◌, ◌*ℤ◌, Ok, sym, ap, ◌∙◌, arith}
 use Rattle.std.proofs.lemmas.Int.{ints}
 use Rattle.exact_num.specs.Fraction.{Fraction, whole}
 use Rattle.exact_num.specs.Steps.{fold_steps, plus_product}
 use Rattle.exact_num.proofs.After.{after_value}
-use Rattle.form.specs.Vector.{BundleLeg, over_legs, payoff, bundle_payoff}
+use Rattle.form.specs.Vector.{BundleLeg, payoff, bundle_payoff}
 use Rattle.form.specs.Steps.{payoff_of, add_leg, bundle_payoff_of, BundlePayoffsAreExact}
 use Rattle.form.proofs.DotSteps.{payoffs_are_exact, plus_whole_is}
 
@@ -25,14 +25,3 @@ unfolding bundle_payoff_of
 bundle_payoffs_are_exact limit legs z h is =
     let zero_first : pos 0 +ℤ bundle_payoff legs z ≡ bundle_payoff legs z = omega (arith, ints) in
     legs_pay limit (pos 0) legs z h is ∙ ap whole zero_first
-
--- one leg more of a bundle's payoff or price, the legs being made of the items of a list
-pub over_legs_more : {A : Type 0} (p : List ℤ → ℕ) (f : A → BundleLeg) (xs : List A) (i : ℕ) (d : A) → i < length xs
-    → over_legs p (take (i + 1) (map f xs)) ≡ over_legs p (take i (map f xs)) +ℤ ((f (get_or xs i d)).count *ℤ pos (p (f (get_or xs i d)).option))
-over_legs_more p f xs i d h = rw add-one (go xs i h)
-  where
-    go : (xs : List _) (i : ℕ) → i < length xs
-        → over_legs p (take (suc i) (map f xs)) ≡ over_legs p (take i (map f xs)) +ℤ ((f (get_or xs i d)).count *ℤ pos (p (f (get_or xs i d)).option))
-    go [] i h = absurd (omega arith)
-    go (x ∷ xs) zero h = omega (arith, ints)
-    go (x ∷ xs) (suc i) h = omega (arith, ints, go xs i (omega arith))

@@ -1,10 +1,9 @@
 -- The bundle that is made of legs.
 use Rattle.std.proofs.Common.{◌≡◌, Bool, true, false, not, List, length, map, get_or, pos, unsigned_abs, refl, sym, ap, ◌∙◌}
 use Rattle.std.specs.Ordering.{int_eq}
-use Rattle.std.proofs.lemmas.Bool.{le-leb}
+use Rattle.std.proofs.lemmas.Bool.{and_from, le-leb}
 use Rattle.std.proofs.lemmas.Bool.Decides.{Decides-int_eq}
 use Rattle.std.proofs.lemmas.List.Sums.{list_all-from_AllPass}
-use Rattle.arithmetic.proofs.Tests.{and_true}
 use Rattle.form.specs.declared.forms.Form.{Form}
 use Rattle.form.specs.declared.legs.Leg.{Leg}
 use Rattle.form.specs.declared.bundles.Bundle.{Bundle}
@@ -22,7 +21,7 @@ pub bundle_is_one : (b : Bundle) (form : Form) → legs_in b ≡ one_leg form �
 bundle_is_one b form e = bundle_is_legs b (bundle_one form) (ap (map leg_of) (e ∙ sym (legs_in-bundle_one form)))
 
 is_counted-true : (leg : Leg) → IsCounted leg → is_counted leg ≡ true
-is_counted-true leg h = and_true _ _ (not_zero (int_eq leg.count (pos 0)) refl) (le-leb (unsigned_abs leg.count) MAX_COUNT h.1)
+is_counted-true leg h = and_from _ _ (not_zero (int_eq leg.count (pos 0)) refl) (le-leb (unsigned_abs leg.count) MAX_COUNT h.1)
   where
     not_zero : (b : Bool) → int_eq leg.count (pos 0) ≡ b → not b ≡ true
     not_zero true e = absurd (h.0 ((Decides-int_eq leg.count (pos 0)).0 e))
@@ -30,9 +29,9 @@ is_counted-true leg h = and_true _ _ (not_zero (int_eq leg.count (pos 0)) refl) 
 
 pub are_legs-true : (legs : List Leg) → AreLegs legs → are_legs legs ≡ true
 are_legs-true legs h =
-    let sizes = and_true _ _ (le-leb 1 (length legs) h.some) (le-leb (length legs) MAX_LEGS h.few) in
+    let sizes = and_from _ _ (le-leb 1 (length legs) h.some) (le-leb (length legs) MAX_LEGS h.few) in
     let counted = list_all-from_AllPass is_counted legs (λ k d lt. is_counted-true (get_or legs k d) (h.counted k d lt)) in
-    and_true _ _ sizes counted
+    and_from _ _ sizes counted
 
 made_is : (legs : List Leg) (b : Bool) (e : are_legs legs ≡ b) → b ≡ true → legs_in (made_or_one legs b e) ≡ legs
 made_is legs true e t = four_front legs

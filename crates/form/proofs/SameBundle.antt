@@ -4,7 +4,7 @@ use Rattle.std.specs.Prelude.{All}
 use Rattle.std.proofs.Math.Path.{to_path_p}
 use Rattle.std.proofs.Props.{props}
 use Rattle.std.proofs.lemmas.List.{length-drop, length-map, length-take-le, take-append-drop}
-use Rattle.arithmetic.proofs.Sums.{All-head, All-tail}
+use Rattle.std.proofs.lemmas.List.Elements.{All-head, All-tail}
 use Rattle.form.specs.declared.legs.Leg.{Leg}
 use Rattle.form.specs.declared.bundles.Bundle.{Bundle}
 use Rattle.form.specs.Bundles.{leg_of, legs_in, bundle_legs, IsCounted, IsFiller, BundlesAreLegs}

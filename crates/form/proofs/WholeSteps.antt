@@ -1,12 +1,10 @@
 -- What a checked operation of 128 bits gives, as a step with a limit.
 use Rattle.std.proofs.Common.{◌≡◌, ℕ, suc, ◌-◌, ◌^◌, ◌≤◌, Bool, true, false, Option, Some, None, option_and_then, FitsSigned, w16, w32, w64, negsuc, ℤ, pos, ◌+ℤ◌, ◌*ℤ◌, unsigned_abs, to_z, of_z, if◌then◌else◌, Ok, Err, arith, refl, sym, subst, ◌∙◌}
-use Rattle.std.specs.Prelude.{nat_le}
 use Rattle.std.proofs.Math.Nat.{mul-le-mul}
-use Rattle.std.proofs.lemmas.Bool.{le-leb}
+use Rattle.std.proofs.lemmas.Bool.{false_from_ne_true, le-leb, leb-true}
 use Rattle.std.proofs.lemmas.Int.{fits_signed_from_abs, ints, to_z-of_z, unsigned_abs-mul}
 use Rattle.std.specs.Option.{SomeIff, ok_or}
 use mir.Syntax.{w128}
-use Rattle.std.proofs.lemmas.Bool.Decides.{nat_tests}
 use Rattle.exact_num.specs.declared.misfit.Wide.{Wide}
 use Rattle.exact_num.specs.Fraction.{whole}
 use Rattle.exact_num.specs.Fits.{size_fits, meaning, add_of, mul_of}
@@ -16,13 +14,6 @@ use Rattle.exact_num.proofs.WholeNumbers.{add-wholes, mul-wholes}
 -- the number that is asked for, where it fits
 abbrev pub fitted : ℕ → Option ℤ → Option ℤ
 fitted limit number = option_and_then (λ n. if size_fits limit n then Some n else None) number
-
-at_most : (m n : ℕ) → nat_le m n ≡ true → m ≤ n
-at_most m n h = grind (arith, nat_tests)
-
-not_true : (b : Bool) → (b ≡ true → ⊥) → b ≡ false
-not_true true h = absurd (h refl)
-not_true false h = refl
 
 -- what a checked operation of 128 bits gives, where it fits, or else the misfit
 pub checked_step : (r : Option ℤ) (z : ℤ) (w : Wide) → SomeIff r (FitsSigned w128 z) z
@@ -35,8 +26,8 @@ checked_step (Some x) z w h = rw (h.1) (by_test (size_fits (2 ^ 127 - 1) z))
 checked_step None z w h = rw (too_large z h) refl
   where
     too_large : (z : ℤ) → (FitsSigned w128 z → ⊥) → size_fits (2 ^ 127 - 1) z ≡ false
-    too_large (pos n) h = not_true _ (λ t. h (record { sfits = omega (arith, at_most n (2 ^ 127 - 1) t) }))
-    too_large (negsuc n) h = not_true _ (λ t. h (record { sfits = omega (arith, at_most (suc n) (2 ^ 127 - 1) t) }))
+    too_large (pos n) h = false_from_ne_true _ (λ t. h (record { sfits = omega (arith, leb-true n (2 ^ 127 - 1) t) }))
+    too_large (negsuc n) h = false_from_ne_true _ (λ t. h (record { sfits = omega (arith, leb-true (suc n) (2 ^ 127 - 1) t) }))
 
 -- ---- steps that fit
 product_is : (a b : ℤ) → unsigned_abs (a *ℤ b) ≤ 2 ^ 126 → mul_of (2 ^ 127 - 1) (whole a) (whole b) ≡ Ok (whole (a *ℤ b))

@@ -1,5 +1,5 @@
 -- Bundles of the code.
-use Rattle.std.specs.Prelude.{ℕ, ◌≡◌, List, [], ◌∷◌, Bool, nat_eq, map, take, ℤ, pos, unsigned_abs}
+use Rattle.std.specs.Prelude.{ℕ, ◌≡◌, List, [], ◌∷◌, Bool, nat_eq, map, take, ℤ, unsigned_abs}
 use Rattle.std.specs.List.{All, list_all, sum}
 use Rattle.form.specs.declared.legs.Leg.{Leg}
 use Rattle.form.specs.declared.bundles.Bundle.{Bundle}
@@ -24,10 +24,6 @@ IsOnCount count bundle = All (λ (leg : Leg). leg.form.count ≡ count) (legs_in
 
 abbrev pub is_on_count : ℕ → Bundle → Bool
 is_on_count count bundle = list_all (λ (leg : Leg). nat_eq leg.form.count count) (legs_in bundle)
-
--- one leg of count 1
-abbrev pub IsOneOption : Bundle → Type 0
-IsOneOption bundle = map (λ (leg : Leg). leg.count) (legs_in bundle) ≡ pos 1 ∷ []
 
 -- the option of the first leg
 abbrev pub option_first : List BundleLeg → List ℤ

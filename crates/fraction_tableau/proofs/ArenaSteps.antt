@@ -1,8 +1,8 @@
 -- One step of the loop over the rows of an arena.
-use Rattle.std.proofs.Common.{◌≡◌, ℕ, zero, suc, ◌+◌, ◌<◌, ◌≤◌, List, [], ◌∷◌, length, map, take, drop, set, refl, sym, ◌∙◌, ap, arith, true, nat_eq, subst, pos}
-use Rattle.std.proofs.lemmas.Bool.Decides.{nat_tests}
+use Rattle.std.proofs.Common.{◌≡◌, ℕ, zero, suc, ◌+◌, ◌<◌, ◌≤◌, List, [], ◌∷◌, length, map, take, drop, set, refl, sym, ◌∙◌, ap, arith, subst, pos}
 use Rattle.std.proofs.lemmas.List.{drop_all, take_all, length-map, append-nil}
 use Rattle.std.specs.Prelude.{Result, Ok, Err, slice_index_or}
+use Rattle.std.proofs.lemmas.Bool.{eq-eqb, ne_eqb}
 use Rattle.exact_num.specs.declared.misfit.Wide.{Wide}
 use Rattle.exact_num.specs.Fraction.{Fraction, IsLowest}
 use Rattle.exact_num.proofs.Values.{whole_is_lowest}
@@ -10,11 +10,7 @@ use Rattle.simplex_run.specs.Places.{at}
 use Rattle.exact_num.specs.Fits.{after, written_back}
 use Rattle.fraction_tableau.proofs.EntrySteps.{front_of, behind, behind_more, done_more, left_less}
 use Rattle.simplex_run.specs.Pivot.{divided, eliminated}
-use Rattle.simplex_run.proofs.Entries.{other_test}
 use Rattle.fraction_tableau.specs.Lists.{front, fronts, list_after, lists_after, lists_after_pivot}
-
-pub same_test : (j k : ℕ) → j ≡ k → nat_eq j k ≡ true
-same_test j k h = grind (arith, nat_tests)
 
 module _ {A : Type 0} (V : A → List Fraction) (L c : ℕ) (labels : List ℕ) (r : ℕ) (P : List Fraction) where
   step : (rows : List A) (i : ℕ) (x : A) → i < length rows → x ≡ slice_index_or rows i x
@@ -44,10 +40,10 @@ module _ {A : Type 0} (V : A → List Fraction) (L c : ℕ) (labels : List ℕ) 
 
   -- the pivot row and another one
   pub at_pivot : (i : ℕ) (xs : List Fraction) → i ≡ r → list_after L c labels r P i xs ≡ Ok P
-  at_pivot i xs e = let t = same_test i r e in rw t refl
+  at_pivot i xs e = let t = eq-eqb i r e in rw t refl
 
   pub at_other : (i : ℕ) (xs : List Fraction) → (i ≡ r → ⊥) → list_after L c labels r P i xs ≡ eliminated L c labels P xs
-  at_other i xs ne = let t = other_test i r ne in rw t refl
+  at_other i xs ne = let t = ne_eqb i r ne in rw t refl
 
 pub set_here : {A : Type 0} (xs : List A) (i : ℕ) (x d : A) → i < length xs → x ≡ slice_index_or xs i d → set xs i x ≡ xs
 set_here [] i x d h e = absurd (omega (arith, h))
@@ -94,7 +90,7 @@ fronts_lowest f h w rows i j = subst (λ xs. IsLowest (at xs j)) (sym (at_fronts
 pivot_unread : (L c : ℕ) (labels : List ℕ) (r : ℕ) (P : List Fraction) (i j : ℕ) (rows : List (List Fraction)) (y : List Fraction) → i + j ≡ r → lists_after L c labels r P i (set rows j y) ≡ lists_after L c labels r P i rows
 unfolding lists_after
 pivot_unread L c labels r P i j [] y e = refl
-pivot_unread L c labels r P i zero (xs ∷ rows) y e = let t = same_test i r (omega (arith, e)) in rw t refl
+pivot_unread L c labels r P i zero (xs ∷ rows) y e = let t = eq-eqb i r (omega (arith, e)) in rw t refl
 pivot_unread L c labels r P i (suc j) (xs ∷ rows) y e =
     ap (λ z. after (list_after L c labels r P i xs) (λ first. after z (λ others. Ok (first ∷ others)))) (pivot_unread L c labels r P (i + 1) j rows y (omega (arith, e)))
 

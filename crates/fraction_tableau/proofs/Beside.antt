@@ -1,13 +1,12 @@
 -- The pivot of a table whose basic variables stand in a list of their own.
 use Rattle.std.proofs.Common.{◌≡◌, ℕ, zero, suc, ◌+◌, ◌<◌, List, [], ◌∷◌, length, set, refl, arith, ◌∙◌}
 use Rattle.std.specs.Prelude.{Result, Ok, Err, get_or, slice_index_or}
+use Rattle.std.proofs.lemmas.Bool.{eq-eqb, ne_eqb}
 use Rattle.exact_num.specs.declared.misfit.Wide.{Wide}
 use Rattle.exact_num.specs.Fraction.{Fraction}
 use Rattle.exact_num.specs.Fits.{after, written_back}
 use Rattle.simplex_run.specs.Table.{Row, Table, row_of, with_right, entries_at, basic_at}
 use Rattle.simplex_run.specs.Pivot.{divided, eliminated, rows_after, after_pivot}
-use Rattle.simplex_run.proofs.Entries.{other_test}
-use Rattle.fraction_tableau.proofs.ArenaSteps.{same_test}
 use Rattle.fraction_tableau.specs.Lists.{lists_after, lists_after_pivot}
 use Rattle.fraction_tableau.specs.Candidates.{beside_basics, apart}
 
@@ -27,7 +26,7 @@ module _ (L c : ℕ) (labels : List ℕ) (e r : ℕ) (P : List Fraction) where
   past [] (xs ∷ lists) i s p = absurd (omega (arith, s))
   past (b ∷ bs) [] i s p = absurd (omega (arith, s))
   past (b ∷ bs) (xs ∷ lists) i s p =
-      let t = other_test i r (λ q. omega (arith, p, q)) in
+      let t = ne_eqb i r (λ q. omega (arith, p, q)) in
       rw (t, past bs lists (i + 1) (omega (arith, s)) (omega (arith, p))) (one_more b bs (eliminated L c labels P xs) (lists_after L c labels r P (i + 1) lists))
 
   pub rows_beside : (bs : List ℕ) (lists : List (List Fraction)) (i j : ℕ) → length bs ≡ length lists → i + j ≡ r
@@ -37,10 +36,10 @@ module _ (L c : ℕ) (labels : List ℕ) (e r : ℕ) (P : List Fraction) where
   rows_beside [] (xs ∷ lists) i j s p = absurd (omega (arith, s))
   rows_beside (b ∷ bs) [] i j s p = absurd (omega (arith, s))
   rows_beside (b ∷ bs) (xs ∷ lists) i zero s p =
-      let t = same_test i r (omega (arith, p)) in
+      let t = eq-eqb i r (omega (arith, p)) in
       rw (t, past bs lists (i + 1) (omega (arith, s)) (omega (arith, p))) (one_more e bs (Ok P) (lists_after L c labels r P (i + 1) lists))
   rows_beside (b ∷ bs) (xs ∷ lists) i (suc j) s p =
-      let t = other_test i r (λ q. omega (arith, p, q)) in
+      let t = ne_eqb i r (λ q. omega (arith, p, q)) in
       rw (t, rows_beside bs lists (i + 1) j (omega (arith, s)) (omega (arith, p))) (one_more b (set bs j e) (eliminated L c labels P xs) (lists_after L c labels r P (i + 1) lists))
 
 pub entries_beside : (bs : List ℕ) (lists : List (List Fraction)) (r : ℕ) → length bs ≡ length lists → entries_at (beside_basics bs lists) r ≡ slice_index_or lists r []

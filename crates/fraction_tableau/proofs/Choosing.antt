@@ -28,29 +28,32 @@ pub no_column : (labels : List ℕ) (xs : List Fraction) (k : ℕ) → length la
 unfolding least_below
 no_column labels xs k h = let none : drop k labels ≡ [] = drop_all k labels h in rw none refl
 
-least_inside : (k : ℕ) (vs : List ℕ) (xs : List Fraction) (d : Column) → least_below k vs xs ≡ Some d → d.place < k + length vs
-unfolding least_below
-least_inside k [] xs d h = absurd cc
-least_inside k (v ∷ vs) [] d h = absurd cc
-least_inside k (v ∷ vs) (x ∷ xs) d h = step (is_below_zero x) (least_below (k + 1) vs xs) (least_inside (k + 1) vs xs) h
+-- the column that is put before the later ones stands before the end, where the later one does
+pub place_inside : (k v n : ℕ) (d : Column) (is_negative : Bool) (later : Option Column) → ((b : Column) → later ≡ Some b → b.place < k + 1 + n)
+    → (if is_negative then Some (smaller (column k v) later) else later) ≡ Some d → d.place < k + suc n
+place_inside k v n d false later low e = let last = low d e in omega (arith, last)
+place_inside k v n d true None low e =
+    let same : column k v ≡ d = cc in
+    let q = ap (λ (x : Column). x.place) same in
+    omega (arith, q)
+place_inside k v n d true (Some b) low e = of_two (nat_lt b.label v) e
   where
-    inner : (t : Bool) (b : Column) → b.place < k + 1 + length vs → Some (if t then b else record { place = k; label = v }) ≡ Some d → d.place < k + suc (length vs)
-    inner true b low e =
+    of_two : (t : Bool) → Some (if t then b else column k v) ≡ Some d → d.place < k + suc n
+    of_two true e =
         let same : b ≡ d = cc in
         let q = ap (λ (x : Column). x.place) same in
-        omega (arith, low, q)
-    inner false b low e =
+        let last = low b refl in
+        omega (arith, last, q)
+    of_two false e =
         let same : column k v ≡ d = cc in
         let q = ap (λ (x : Column). x.place) same in
         omega (arith, q)
 
-    step : (t : Bool) (later : Option Column) → ((b : Column) → later ≡ Some b → b.place < k + 1 + length vs) → (if t then Some (smaller (record { place = k; label = v }) later) else later) ≡ Some d → d.place < k + suc (length vs)
-    step false later g e = let low = g d e in omega (arith, low)
-    step true None g e =
-        let same : column k v ≡ d = cc in
-        let q = ap (λ (x : Column). x.place) same in
-        omega (arith, q)
-    step true (Some b) g e = inner (nat_lt b.label v) b (g b refl) e
+least_inside : (k : ℕ) (vs : List ℕ) (xs : List Fraction) (d : Column) → least_below k vs xs ≡ Some d → d.place < k + length vs
+unfolding least_below
+least_inside k [] xs d h = absurd cc
+least_inside k (v ∷ vs) [] d h = absurd cc
+least_inside k (v ∷ vs) (x ∷ xs) d h = place_inside k v (length vs) d (is_below_zero x) (least_below (k + 1) vs xs) (least_inside (k + 1) vs xs) h
 
 pub inside_of : (r : Option Entering) (labels : List ℕ) (xs : List Fraction) → option_map as_column r ≡ least_below 0 labels xs → IfSome r (λ c. c.place < length labels)
 inside_of None labels xs h = tt

@@ -4,7 +4,7 @@ use Rattle.std.proofs.lemmas.List.{take-map, drop-map, take_more_set, map-append
 use Rattle.std.specs.Prelude.{Result, Ok, Err, slice_index_or}
 use Rattle.exact_num.specs.declared.misfit.Wide.{Wide}
 use Rattle.exact_num.specs.Fraction.{Fraction}
-use Rattle.exact_num.specs.Fits.{after, written_back}
+use Rattle.exact_num.specs.Fits.{after}
 use Rattle.simplex_run.specs.Places.{at}
 
 -- the entry at i, and those after it
@@ -34,10 +34,3 @@ done_more {B} value xs i y low =
 pub left_less : {A B : Type 0} (value : A → B) (xs : List A) (i : ℕ) (y : A) → drop (i + 1) (map value (set xs i y)) ≡ drop (suc i) (map value xs)
 left_less value xs i y =
     rw add-one (drop-map value (suc i) (set xs i y) ∙ ap (map value) (drop-set-lt (suc i) xs i y (omega arith)) ∙ sym (drop-map value (suc i) xs))
-
--- what a step in place says, where it fits and where it does not
-pub step_ok : {T A : Type 0} (r : Result T Wide) (y : A) (s : Result A Wide) (t : T) → written_back r y ≡ s → r ≡ Ok t → s ≡ Ok y
-step_ok r y s t h is_ok = sym h ∙ ap (λ q. written_back q y) is_ok
-
-pub step_stops : {T A : Type 0} (r : Result T Wide) (y : A) (s : Result A Wide) (w : Wide) → written_back r y ≡ s → r ≡ Err w → s ≡ Err w
-step_stops r y s w h is_err = sym h ∙ ap (λ q. written_back q y) is_err

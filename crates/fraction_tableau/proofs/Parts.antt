@@ -37,9 +37,6 @@ part_inside start [] last i h low = absurd (omega (arith, low))
 part_inside start (end ∷ ends) last zero h low = (first start end ends last h, ends_rise end ends last (later start end ends last h))
 part_inside start (end ∷ ends) last (suc i) h low = part_inside end ends last i (later start end ends last h) (omega (arith, low))
 
-pub no_ends : AreEnds 0 [] 0
-no_ends = (λ i low. absurd (omega (arith, low)), refl)
-
 pub ends_more : (start : ℕ) (ends : List ℕ) (last next : ℕ) → AreEnds start ends last → last ≤ next → AreEnds start (ends ++ next ∷ []) next
 ends_more start [] last next h low = let same = h.1 in joined start next [] next (omega (arith, same, low)) (λ i p. absurd (omega (arith, p)), refl)
 ends_more start (end ∷ ends) last next h low = joined start end (ends ++ next ∷ []) next (first start end ends last h) (ends_more end ends last next (later start end ends last h) low)

@@ -1,10 +1,10 @@
 -- What is read off a table of lists that are kept apart.
-use Rattle.std.proofs.Common.{◌≡◌, ℕ, zero, suc, ◌+◌, ◌<◌, ◌≤◌, List, [], ◌∷◌, length, true, false, Bool, nat_eq, refl, sym, ap, arith, pos}
+use Rattle.std.proofs.Common.{◌≡◌, ℕ, zero, suc, ◌+◌, ◌<◌, ◌≤◌, List, [], ◌∷◌, length, true, false, Bool, nat_eq, refl, sym, ap, arith}
 use Rattle.std.specs.Prelude.{Some, None, if◌then◌else◌, cond, not, nat_lt, slice_index_or, position, ◌==◌}
 use Rattle.std.specs.List.{position_or_len}
 use Rattle.std.proofs.lemmas.List.Quantifiers.{position-Some}
 use Rattle.std.proofs.lemmas.Bool.Decides.{nat_tests}
-use Rattle.exact_num.specs.Fraction.{Fraction, whole, negated}
+use Rattle.exact_num.specs.Fraction.{Fraction, negated}
 use Rattle.simplex_run.specs.Places.{at, fraction_zero}
 use Rattle.simplex_run.specs.Table.{Row, Table, row_of, with_right, entry_for, where_basic}
 use Rattle.simplex_run.specs.Choice.{Column}
@@ -92,8 +92,6 @@ pub filled_missing : {A : Type 0} (own : ℕ → A) (j N : ℕ) (vs : List ℕ) 
 filled_missing own j N vs zs low e = filled_nowhere own j N vs zs low (past (λ v. v == j) vs e)
 
 -- ---- one entry of a direction
-pub entry_own : (c : Column) (j : ℕ) (t : Table) → j ≡ c.label → direction_entry c t j ≡ whole (pos 1)
-entry_own c j t e = let same : nat_eq j c.label ≡ true = grind (arith, nat_tests) in rw same refl
 
 pub entry_other : (c : Column) (j : ℕ) (t : Table) → (j ≡ c.label → ⊥) → direction_entry c t j ≡ where_basic (λ row. negated (at row.entries c.place)) j t.rows
 entry_other c j t e = let other : nat_eq j c.label ≡ false = grind (arith, nat_tests) in rw other refl

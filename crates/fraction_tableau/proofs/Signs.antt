@@ -1,9 +1,8 @@
 -- What the sign of a number says of it.
-use Rattle.std.proofs.Common.{◌≡◌, ◌∙◌, sym, ap, refl, arith, zero, suc, ℤ, pos, negsuc, Bool, to_z, of_z, to_z-of_z}
+use Rattle.std.proofs.Common.{◌≡◌, ◌∙◌, sym, ap, refl, arith, ℤ, pos, negsuc, Bool, to_z, of_z, to_z-of_z}
 use Rattle.std.specs.Prelude.{int_lt}
 use Rattle.std.specs.Int.{int_signum}
 use Rattle.std.proofs.lemmas.Bool.Decides.{nat_tests}
-use Rattle.std.proofs.lemmas.Int.{ints}
 use mir.Val.{SFits}
 use mir.Syntax.{w8}
 
@@ -21,11 +20,3 @@ sign_below s n b e f h = sym (below_is n) ∙ ap (λ (z : ℤ). int_lt z (pos 0)
 
 pub sign_above : (s n : ℤ) (b : Bool) → s ≡ int_signum n → SFits w8 s → int_lt (pos 0) (to_z w8 (of_z w8 s)) ≡ b → int_lt (pos 0) n ≡ b
 sign_above s n b e f h = sym (above_is n) ∙ ap (λ (z : ℤ). int_lt (pos 0) z) (sym e ∙ sym (to_z-of_z f)) ∙ h
-
-pub sign_zero : (s n : ℤ) → s ≡ int_signum n → of_z w8 s ≡ 0 → n ≡ pos 0
-sign_zero s n e h = zero_of n (sym (ap (of_z w8) e) ∙ h)
-  where
-    zero_of : (n : ℤ) → of_z w8 (int_signum n) ≡ 0 → n ≡ pos 0
-    zero_of (pos zero) k = refl
-    zero_of (pos (suc n)) k = absurd (omega (arith, ints, k))
-    zero_of (negsuc n) k = absurd (omega (arith, ints, k))

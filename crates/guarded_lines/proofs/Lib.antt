@@ -2,7 +2,6 @@ pub mod AsRun
 pub mod ToldMargins
 pub mod MarginReplies
 pub mod DemandSums
-pub mod Leaving
 pub mod Rising
 pub mod Settled
 pub mod Covered

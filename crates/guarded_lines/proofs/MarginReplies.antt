@@ -1,11 +1,11 @@
 -- The reply to a request for a margin.
-use Rattle.std.proofs.Common.{◌≡◌, ℕ, ℤ, List, [], ◌∷◌, ◌++◌, Bool, true, false, not, Option, Some, None, is_some, if◌then◌else◌, refl, ap, sym, ◌∙◌}
+use Rattle.std.proofs.Common.{◌≡◌, ℕ, ℤ, List, [], ◌∷◌, ◌++◌, Bool, true, false, not, Option, Some, None, is_some, if◌then◌else◌, ap, sym, ◌∙◌}
 use Rattle.std.specs.Option.{option_map_or}
 use Rattle.cash_ledger.specs.Ledger.{if_open, is_open}
 use Rattle.order_book.specs.declared.market.MarketInfo.{MarketInfo}
 use Rattle.order_book.specs.Book.{info_in}
 use Rattle.lists.specs.Refusals.{first_of}
-use Rattle.lists.proofs.FirstRefusal.{first_behind, first_in_front}
+use Rattle.lists.proofs.FirstRefusal.{first_behind}
 use Rattle.exchange_core.specs.declared.refusal.Refusal.{Refusal}
 use Rattle.exchange_core.specs.declared.refusal.Refusal.TheVariants.{NoAccount, TooMany}
 use Rattle.exchange_core.specs.ExchangeState.{ExchangeState}
@@ -28,12 +28,6 @@ module _ (state : ExchangeState) (request : MarginRequest) where
   abbrev later : Bool → Bool → List (Bool × Refusal)
   later opened many = (not opened, NoAccount) ∷ (many, TooMany) ∷ []
 
-  pub refused_by_market : (info : Option MarketInfo) (refusal : Refusal) → info ≡ info_in state.book request.market → Some refusal ≡ first_of (market_refusals info)
-      → Plain (refused_with refusal) ≡ margin_reply state request
-  refused_by_market info refusal is h =
-      let rest = later (is_open state.accounts request.account) (are_many state request.account request.market) in
-      ap replied (sym (first_in_front (market_refusals info) rest refusal (sym h))) ∙ ap (λ (o : Option MarketInfo). replied (first_of (market_refusals o ++ rest))) is
-
   by_account : (info : Option MarketInfo) (opened many : Bool) → info ≡ info_in state.book request.market → None ≡ first_of (market_refusals info)
       → is_open state.accounts request.account ≡ opened → are_many state request.account request.market ≡ many
       → replied (first_of (later opened many)) ≡ margin_reply state request
@@ -41,14 +35,6 @@ module _ (state : ExchangeState) (request : MarginRequest) where
       (λ i. replied (first_of (later (sym open_is i) (sym many_is i))))
       ∙ ap replied (sym (first_behind (market_refusals info) (later (is_open state.accounts request.account) (are_many state request.account request.market)) (sym none)))
       ∙ ap (λ (o : Option MarketInfo). replied (first_of (market_refusals o ++ later (is_open state.accounts request.account) (are_many state request.account request.market)))) is
-
-  pub refused_closed : (info : Option MarketInfo) → info ≡ info_in state.book request.market → None ≡ first_of (market_refusals info)
-      → is_open state.accounts request.account ≡ false → Plain (refused_with NoAccount) ≡ margin_reply state request
-  refused_closed info is none closed = by_account info false (are_many state request.account request.market) is none closed refl
-
-  pub refused_many : (info : Option MarketInfo) → info ≡ info_in state.book request.market → None ≡ first_of (market_refusals info)
-      → is_open state.accounts request.account ≡ true → are_many state request.account request.market ≡ true → Plain (refused_with TooMany) ≡ margin_reply state request
-  refused_many info is none opened many = by_account info true true is none opened many
 
   pub margin_replied : (info : Option MarketInfo) (told : ToldMargin) → info ≡ info_in state.book request.market → None ≡ first_of (market_refusals info)
       → is_open state.accounts request.account ≡ true → are_many state request.account request.market ≡ false

@@ -1,11 +1,11 @@
 -- The choices of a pivot, one column or row after another.
-use Rattle.std.proofs.Common.{◌≡◌, ℕ, zero, suc, ◌+◌, ◌-◌, ◌<◌, ◌≤◌, List, [], ◌∷◌, length, drop, get_or, add-one, refl, sym, ◌∙◌, ap, subst, arith, Bool, true, false, ℤ, pos, unsigned_abs}
-use Rattle.std.specs.Prelude.{Option, Some, None, IfSome, if◌then◌else◌, int_lt, nat_lt}
+use Rattle.std.proofs.Common.{◌≡◌, ℕ, zero, suc, ◌+◌, ◌-◌, ◌<◌, ◌≤◌, List, [], ◌∷◌, length, drop, get_or, add-one, refl, sym, ◌∙◌, ap, subst, arith, true, false, ℤ, pos, unsigned_abs}
+use Rattle.std.specs.Prelude.{Option, Some, None, IfSome, int_lt}
 use Rattle.std.specs.Option.{option_map}
 use Rattle.std.proofs.lemmas.List.{drop_all, get_or-take, length-map}
 use Rattle.std.proofs.Math.Seq.{drop-cons}
 use Rattle.exact_num.specs.Fraction.{over}
-use Rattle.simplex_run.specs.Choice.{Ratio, ratio_of, least, Column, smaller}
+use Rattle.simplex_run.specs.Choice.{Ratio, ratio_of, least, Column}
 use Rattle.fraction_tableau.specs.Candidates.{better_of, best_with}
 use Rattle.run_equivalence.specs.IntegerRows.{IntegerRow, WholeRow, no_integer_row, whole_row, number_at}
 use Rattle.run_equivalence.specs.WholePivoting.{whole_ratios, least_column}
@@ -13,12 +13,10 @@ use Rattle.fraction_tableau.specs.declared.columns.Entering.{Entering}
 use Rattle.fraction_tableau.specs.Labels.{as_column}
 use Rattle.integer_tableau.specs.Rows.{row_in, integer_rows_in, row_at, beside_basics}
 use Rattle.fraction_tableau.specs.Labels.{with_column}
+use Rattle.fraction_tableau.proofs.Choosing.{place_inside}
 use Rattle.integer_tableau.proofs.Listed.{IsGap}
 
 -- ---- the entering column
-abbrev pub column : ℕ → ℕ → Column
-column k v = record { place = k; label = v }
-
 pub column_more : (labels : List ℕ) (zs : List ℤ) (k : ℕ) → k < length labels → k < length zs
     → least_column k (drop k labels) (drop k zs) ≡ with_column (int_lt (get_or zs k (pos 0)) (pos 0)) (record { place = k; label = get_or labels k 0 }) (least_column (k + 1) (drop (k + 1) labels) (drop (k + 1) zs))
 unfolding least_column
@@ -36,25 +34,7 @@ least_inside : (k : ℕ) (vs : List ℕ) (zs : List ℤ) (d : Column) → least_
 unfolding least_column
 least_inside k [] zs d h = absurd cc
 least_inside k (v ∷ vs) [] d h = absurd cc
-least_inside k (v ∷ vs) (z ∷ zs) d h = step (int_lt z (pos 0)) (least_column (k + 1) vs zs) (least_inside (k + 1) vs zs) h
-  where
-    inner : (t : Bool) (b : Column) → b.place < k + 1 + length vs → Some (if t then b else record { place = k; label = v }) ≡ Some d → d.place < k + suc (length vs)
-    inner true b low e =
-        let same : b ≡ d = cc in
-        let q = ap (λ (x : Column). x.place) same in
-        omega (arith, low, q)
-    inner false b low e =
-        let same : column k v ≡ d = cc in
-        let q = ap (λ (x : Column). x.place) same in
-        omega (arith, q)
-
-    step : (t : Bool) (later : Option Column) → ((b : Column) → later ≡ Some b → b.place < k + 1 + length vs) → (if t then Some (smaller (record { place = k; label = v }) later) else later) ≡ Some d → d.place < k + suc (length vs)
-    step false later g e = let low = g d e in omega (arith, low)
-    step true None g e =
-        let same : column k v ≡ d = cc in
-        let q = ap (λ (x : Column). x.place) same in
-        omega (arith, q)
-    step true (Some b) g e = inner (nat_lt b.label v) b (g b refl) e
+least_inside k (v ∷ vs) (z ∷ zs) d h = place_inside k v (length vs) d (int_lt z (pos 0)) (least_column (k + 1) vs zs) (least_inside (k + 1) vs zs) h
 
 pub inside_of : (r : Option Entering) (labels : List ℕ) (zs : List ℤ) → option_map as_column r ≡ least_column 0 labels zs → IfSome r (λ c. c.place < length labels)
 inside_of None labels zs h = tt

@@ -1,17 +1,18 @@
 -- A row that the pivot's column is eliminated from, in code.
-use Rattle.std.proofs.Common.{◌≡◌, ℕ, zero, suc, negsuc, ◌-ℤ◌, ◌+◌, ◌*◌, ◌/◌, ◌%◌, ◌<◌, ◌≤◌, List, arith, refl, sym, ◌∙◌, ap, subst, ℤ, pos, int_div, unsigned_abs, length, Bool, true, false, not, FitsSigned, set, to_z, of_z, w64, nat_eq}
+use Rattle.std.proofs.Common.{◌≡◌, ℕ, zero, suc, negsuc, ◌-ℤ◌, ◌+◌, ◌*◌, ◌/◌, ◌%◌, ◌<◌, ◌≤◌, List, arith, refl, sym, ◌∙◌, ap, subst, ℤ, pos, int_div, unsigned_abs, length, true, false, not, FitsSigned, set, to_z, of_z, w64, nat_eq}
 use Rattle.std.specs.Prelude.{int_lt}
 use Rattle.std.proofs.lemmas.Int.{ints, to_z-of_z, to_z_pos}
-use Rattle.std.proofs.lemmas.Bool.{eq-eqb, eqb-true, ne_eqb}
+use Rattle.std.proofs.lemmas.Bool.{eq-eqb, eqb-true, ne_eqb, not-false}
 use Rattle.std.proofs.lemmas.Nat.Gcd.{le_of_dvd}
 use Rattle.std.proofs.Math.Nat.{div-le_self, div-one, div_self, mul-div_cancel, mul-le-mul}
 use Rattle.arithmetic.specs.Gcd.{gcd}
 use Rattle.arithmetic.proofs.GcdLaws.{gcd_comm, gcd_pos_right, gcd_dvd_right, gcd-one, gcd-zero, gcd-mul, pos_of_quotient}
 use Rattle.arithmetic.proofs.Products.{products}
 use Rattle.arithmetic.proofs.Quotients.{int_div-one, unsigned_abs-int_div}
+use Rattle.arithmetic.proofs.Integers.{zero_of_size}
 use Rattle.run_equivalence.specs.IntegerRows.{AreSizes, IsIntegerRow, IntegerRow, integer_row, row_size, number_at, widest}
 use Rattle.run_equivalence.specs.WholePivoting.{row_eliminated, cross_difference, cut_where_wide, step_size}
-use Rattle.run_equivalence.proofs.IntegerRowSteps.{eliminated_rows_fit, set_sizes, size_at_most, sizes_bound, zero_of_size}
+use Rattle.run_equivalence.proofs.IntegerRowSteps.{eliminated_rows_fit, set_sizes, size_at_most, sizes_bound}
 use Rattle.integer_tableau.specs.Eliminating.{IsEliminatedBy, IsLeft, IsMade, IsPivotRow, IsShort}
 use Rattle.integer_tableau.specs.Rows.{IsEliminated, row_in}
 use Rattle.integer_tableau.specs.Within.{AreMixedSizes, HasRoom}
@@ -73,11 +74,7 @@ exact_below (negsuc n) q d p h e =
 
 -- a number that is tested to be 0
 pub zero_from_test : (z : ℤ) → FitsSigned w64 z → not (nat_eq (of_z w64 z) 0) ≡ false → z ≡ pos 0
-zero_from_test z fits h = sym (to_z-of_z w64 z fits) ∙ ap (to_z w64) (eqb-true _ _ (is_true _ h)) ∙ to_z_pos w64 0 (omega arith)
-  where
-    is_true : (b : Bool) → not b ≡ false → b ≡ true
-    is_true true k = refl
-    is_true false k = absurd cc
+zero_from_test z fits h = sym (to_z-of_z w64 z fits) ∙ ap (to_z w64) (eqb-true _ _ (not-false _ h)) ∙ to_z_pos w64 0 (omega arith)
 
 -- ---- the size that no step is above, by the factors of a mix
 pub steps_of_factors : (size a most limit : ℕ) (x p f : ℤ) → p ≡ pos (a / gcd (unsigned_abs x) a) → f ≡ int_div x (pos (gcd (unsigned_abs x) a)) → size * unsigned_abs p + unsigned_abs f * most ≤ limit → step_size size (unsigned_abs x) a most ≤ limit

@@ -1,5 +1,5 @@
 -- Numbers, their sizes, and what is made of them.
-use Rattle.std.proofs.Common.{◌≡◌, ℕ, zero, suc, ◌^◌, ◌-◌, ◌%◌, ◌<◌, ◌≤◌, ◌+◌, List, [], ◌∷◌, ◌++◌, length, take, drop, set, get_or, ◌≤ℤ◌, arith, refl, sym, ◌∙◌, ap, subst, ℤ, pos, ◌*ℤ◌, ◌-ℤ◌, negsuc, unsigned_abs, FitsSigned, to_z, of_z, w64, map, Bool, true, false, ◌&&◌}
+use Rattle.std.proofs.Common.{◌≡◌, ℕ, zero, suc, ◌^◌, ◌-◌, ◌%◌, ◌<◌, ◌≤◌, ◌+◌, List, [], ◌∷◌, ◌++◌, length, take, drop, set, get_or, ◌≤ℤ◌, arith, refl, sym, ◌∙◌, ap, subst, ℤ, pos, ◌*ℤ◌, ◌-ℤ◌, negsuc, unsigned_abs, FitsSigned, to_z, of_z, w64, map, true, false}
 use mir.Syntax.{w128}
 use Rattle.std.proofs.Math.Facts.{Fits-nat_abs}
 use Rattle.std.proofs.lemmas.Int.{ints, to_z-of_z, fits_signed_from_abs}
@@ -12,6 +12,7 @@ use Rattle.std.proofs.lemmas.List.{take_more_set, take_more, take_all, get_or-ma
 use Rattle.std.proofs.lemmas.Nat.{le_or_l, le_or_r}
 use Rattle.run_equivalence.specs.WholePivoting.{common_of, cross_difference}
 use Rattle.std.proofs.lemmas.Bool.{and_parts}
+use Rattle.std.proofs.Math.Bool.{and-false}
 use Rattle.exact_num.specs.Fits.{size_fits}
 use Rattle.run_equivalence.specs.IntegerRows.{AreSizes, integer_row, row_size, numbers_fit, number_at, widest}
 use Rattle.run_equivalence.proofs.IntegerRowSteps.{size_at_most}
@@ -143,11 +144,7 @@ pub fits_stop : (b : ℕ) (w : List ℤ) (i : ℕ) → i < length w → size_fit
 unfolding numbers_fit
 fits_stop b [] i h t = absurd (omega (arith, h))
 fits_stop b (z ∷ w) zero h t = rw t refl
-fits_stop b (z ∷ w) (suc i) h t = let later = fits_stop b w i (omega (arith, h)) t in rw later (and_false (size_fits b z))
-  where
-    and_false : (x : Bool) → (x && false) ≡ false
-    and_false true = refl
-    and_false false = refl
+fits_stop b (z ∷ w) (suc i) h t = let later = fits_stop b w i (omega (arith, h)) t in rw later (and-false (size_fits b z))
 
 pub at_map : (g : ℤ → ℤ) (xs : List ℤ) (i : ℕ) → i < length xs → g (get_or xs i (pos 0)) ≡ get_or (map g xs) i (pos 0)
 at_map g xs i h = sym (get_or-map g xs i (pos 0) (pos 0) h)

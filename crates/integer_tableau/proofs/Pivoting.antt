@@ -1,12 +1,9 @@
 -- A pivot of the table whose lists are kept apart.
 use Rattle.std.proofs.Common.{◌≡◌, ℕ, zero, suc, ◌+◌, ◌<◌, List, [], ◌∷◌, length, set, get_or, refl, sym, ◌∙◌, ap, subst, arith, Bool, true, false, nat_eq, ℤ, pos, unsigned_abs, length-set}
 use Rattle.std.specs.Prelude.{Some, None, ◌&&◌, int_lt, if◌then◌else◌}
-use Rattle.std.proofs.lemmas.Bool.{le-leb}
-use Rattle.arithmetic.proofs.Tests.{and_true}
+use Rattle.std.proofs.lemmas.Bool.{and_from, eq-eqb, le-leb, ne_eqb}
 use Rattle.std.proofs.lemmas.List.{length-map}
 use Rattle.simplex_run.specs.Choice.{Ratio, least}
-use Rattle.simplex_run.proofs.Entries.{other_test}
-use Rattle.fraction_tableau.proofs.ArenaSteps.{same_test}
 use Rattle.fraction_tableau.specs.Candidates.{best_with}
 use Rattle.run_equivalence.specs.IntegerRows.{IntegerRow, WholeRow, whole_row, integer_row, row_size, number_at, integer_row_at, no_integer_row, rows_fit, IntegerTable, basic_of}
 use Rattle.run_equivalence.specs.WholePivoting.{cut, whole_ratios, steps_within, row_steps_within, rows_steps_within, table_steps_within, leaving_fits, exchanged_in, row_eliminated, whole_rows_after, whole_pivoted, whole_leave, whole_pivot, pivot_fits}
@@ -39,7 +36,7 @@ module _ (limit w c e r a most : ℕ) (P : List ℤ) where
   past (b ∷ bs) [] new i s m p g = absurd (omega (arith, s))
   past (b ∷ bs) (x ∷ rows) [] i s m p g = absurd (omega (arith, m))
   past (b ∷ bs) (x ∷ rows) (y ∷ new) i s m p g =
-      let t = other_test i r (λ q. omega (arith, p, q)) in
+      let t = ne_eqb i r (λ q. omega (arith, p, q)) in
       let later = past bs rows new (i + 1) (omega (arith, s)) (omega (arith, m)) (omega (arith, p)) (λ j low apart. g (suc j) (omega (arith, low)) (λ q. apart (omega (arith, q)))) in
       rw (t, later) (ap (λ (l : IntegerRow). whole_row b l ∷ beside_basics bs (integer_rows_in w new)) (sym (g 0 (omega arith) (λ q. omega (arith, p, q))).is))
 
@@ -51,11 +48,11 @@ module _ (limit w c e r a most : ℕ) (P : List ℤ) where
   rows_beside (b ∷ bs) [] new i j s m low p is g = absurd (omega (arith, s))
   rows_beside (b ∷ bs) (x ∷ rows) [] i j s m low p is g = absurd (omega (arith, m))
   rows_beside (b ∷ bs) (x ∷ rows) (y ∷ new) i zero s m low p is g =
-      let t = same_test i r (omega (arith, p)) in
+      let t = eq-eqb i r (omega (arith, p)) in
       let later = past bs rows new (i + 1) (omega (arith, s)) (omega (arith, m)) (omega (arith, p)) (λ k q apart. g (suc k) (omega (arith, q)) (λ e. apart (omega (arith, e)))) in
       rw (t, later) (ap (λ (l : IntegerRow). whole_row e l ∷ beside_basics bs (integer_rows_in w new)) (sym is))
   rows_beside (b ∷ bs) (x ∷ rows) (y ∷ new) i (suc j) s m low p is g =
-      let t = other_test i r (λ q. omega (arith, p, q)) in
+      let t = ne_eqb i r (λ q. omega (arith, p, q)) in
       let later = rows_beside bs rows new (i + 1) j (omega (arith, s)) (omega (arith, m)) (omega (arith, low)) (omega (arith, p)) is (λ k q apart. g (suc k) (omega (arith, q)) (λ e. apart (omega (arith, e)))) in
       rw (t, later) (ap (λ (l : IntegerRow). whole_row b l ∷ beside_basics (set bs j e) (integer_rows_in w new)) (sym (g 0 (omega arith) (λ q. omega (arith, p, q))).is))
 
@@ -107,12 +104,12 @@ unfolding rows_steps_within
 rows_steps_in limit w e r i pivot [] rows g = refl
 rows_steps_in limit w e r i pivot (v ∷ bs) [] g = refl
 rows_steps_in limit w e r i pivot (v ∷ bs) (x ∷ rows) g =
-    and_true (row_steps_within limit e r pivot i (row_in w x)) (rows_steps_within limit e r pivot (i + 1) (beside_basics bs (integer_rows_in w rows)))
+    and_from (row_steps_within limit e r pivot i (row_in w x)) (rows_steps_within limit e r pivot (i + 1) (beside_basics bs (integer_rows_in w rows)))
     (step (nat_eq i r) refl) (rows_steps_in limit w e r (i + 1) pivot bs rows (λ j q apart. g (suc j) (omega (arith, q)) (λ same. apart (omega (arith, same)))))
   where
     step : (same : Bool) → nat_eq i r ≡ same → (if same then true else steps_within limit e pivot (row_in w x)) ≡ true
     step true t = refl
-    step false t = g 0 (omega arith) (λ same. let test = same_test i r (omega (arith, same)) in cc)
+    step false t = g 0 (omega arith) (λ same. let test = eq-eqb i r (omega (arith, same)) in cc)
 
 -- each step is within the limit
 pub pivoted_steps : (limit : ℕ) (labels basics : List ℕ) (rows new : List (List ℤ)) (objective last : List ℤ) (c r : ℕ) → length basics ≡ length rows → r < length rows → IsPivoted limit (length labels + 1) c r (leaving_integer_row labels rows r) rows objective new last
@@ -123,7 +120,7 @@ pivoted_steps limit labels basics rows new objective last c r same low t =
     let l = leaving_integer_row labels rows r in
     let each = rows_steps_in limit w c r 0 l basics rows (λ i p apart. le-leb _ limit (t.rows i p (λ e. apart (omega (arith, e)))).fits) in
     subst (λ (x : IntegerRow). (steps_within limit c (cut x) (row_in (length labels + 1) objective) && rows_steps_within limit c r (cut x) 0 (beside_basics basics (integer_rows_in (length labels + 1) rows))) ≡ true)
-    (sym (row_there labels basics rows r same low)) (and_true (steps_within limit c l (row_in w objective)) (rows_steps_within limit c r l 0 all) (le-leb _ limit t.objective.fits) each)
+    (sym (row_there labels basics rows r same low)) (and_from (steps_within limit c l (row_in w objective)) (rows_steps_within limit c r l 0 all) (le-leb _ limit t.objective.fits) each)
 
 -- ---- a pivot by its leaving row
 pub pivot_none : (c : ℕ) (t : IntegerTable) → best_with None (whole_ratios (length t.labels) c 0 t.rows) ≡ None → whole_pivot c t ≡ None

@@ -6,11 +6,11 @@ use Rattle.std.proofs.Math.Seq.{drop-cons}
 use Rattle.std.proofs.lemmas.Int.{ints}
 use Rattle.std.proofs.lemmas.Bool.{eqb-true, eq-eqb, ne_eqb}
 use Rattle.std.proofs.lemmas.List.{drop_all, take-set, take_more_set}
+use Rattle.arithmetic.proofs.Integers.{zero_of_size}
 use Rattle.exact_num.specs.Fraction.{Fraction, whole}
 use Rattle.fraction_tableau.specs.Nonzero.{is_zero, nonzero_from}
 use Rattle.run_equivalence.specs.IntegerRows.{number_at}
 use Rattle.run_equivalence.specs.WholePivoting.{cross_difference}
-use Rattle.run_equivalence.proofs.IntegerRowSteps.{zero_of_size}
 use Rattle.integer_tableau.proofs.Eliminating.{zero_from_test}
 use Rattle.fraction_tableau.proofs.Nonzero.{passes_zero, takes_nonzero}
 use Rattle.integer_tableau.specs.Rows.{nonzero_in, with_place}

@@ -41,16 +41,6 @@ row_wide (b ∷ bs) (s ∷ short) [] i p q h = absurd (omega (arith, q))
 row_wide (b ∷ bs) (s ∷ short) (x ∷ there) zero p q h = rw h refl
 row_wide (b ∷ bs) (s ∷ short) (x ∷ there) (suc i) p q h = row_wide bs short there i (omega (arith, p)) (omega (arith, q)) h
 
--- ---- one row is written where it stands
-pub wide_written : (bs : List Bool) (short there : List (List ℤ)) (i : ℕ) (ys : List ℤ) → get_or bs i false ≡ true → i < length there → rows_of bs short (set there i ys) ≡ set (rows_of bs short there) i ys
-unfolding rows_of
-wide_written bs [] there i ys h p = refl
-wide_written [] (s ∷ short) there zero ys h p = absurd cc
-wide_written [] (s ∷ short) there (suc i) ys h p = absurd cc
-wide_written (b ∷ bs) (s ∷ short) [] i ys h p = absurd (omega (arith, p))
-wide_written (b ∷ bs) (s ∷ short) (x ∷ there) zero ys h p = rw h refl
-wide_written (b ∷ bs) (s ∷ short) (x ∷ there) (suc i) ys h p = ap (λ rows. (if b then x else s) ∷ rows) (wide_written bs short there i ys h (omega (arith, p)))
-
 -- ---- or where it does not stand
 pub signs_written : (bs : List Bool) (short there : List (List ℤ)) (i : ℕ) (ys : List ℤ) → get_or bs i false ≡ true → i < length there → rows_of bs (set short i ys) there ≡ rows_of bs short there
 unfolding rows_of
@@ -60,15 +50,6 @@ signs_written [] (s ∷ short) there (suc i) ys h p = absurd cc
 signs_written (b ∷ bs) (s ∷ short) [] i ys h p = absurd (omega (arith, p))
 signs_written (b ∷ bs) (s ∷ short) (x ∷ there) zero ys h p = rw h refl
 signs_written (b ∷ bs) (s ∷ short) (x ∷ there) (suc i) ys h p = ap (λ rows. (if b then x else s) ∷ rows) (signs_written bs short there i ys h (omega (arith, p)))
-
--- ---- a row becomes wide, or short
-pub grown : (bs : List Bool) (short there : List (List ℤ)) (i : ℕ) → i < length bs → i < length there → rows_of (set bs i true) short there ≡ set (rows_of bs short there) i (row_at there i)
-unfolding rows_of
-grown bs [] there i p q = refl
-grown [] (s ∷ short) there i p q = absurd (omega (arith, p))
-grown (b ∷ bs) (s ∷ short) [] i p q = absurd (omega (arith, q))
-grown (b ∷ bs) (s ∷ short) (x ∷ there) zero p q = refl
-grown (b ∷ bs) (s ∷ short) (x ∷ there) (suc i) p q = ap (λ rows. (if b then x else s) ∷ rows) (grown bs short there i (omega (arith, p)) (omega (arith, q)))
 
 -- ---- row i is written, where it stands or in the other place, and may change its width
 all_short : (short there : List (List ℤ)) → rows_of [] short there ≡ short

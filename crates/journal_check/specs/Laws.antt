@@ -118,10 +118,6 @@ HasReason text Measure = IsUnmet text no.Measure
 HasReason text Bound = IsUnmet text no.Bound
 HasReason text Wide = IsClearedLine text (λ batch outcome. (w : Misfit) × (verdict_of limit batch outcome ≡ judgement.Wide w))
 
--- the line of this number, counted from 1, fails the test, and those before it are sound
-abbrev pub IsFirstFault : List (List ℕ) → ℕ → Reason → Type 0
-IsFirstFault = IsFirstBy IsSoundLine HasReason
-
 -- whether a reply clears a batch, and whether it marks it optimal; a run marks none bounded
 abbrev pub clears : Reply → Bool
 clears (reply.Cleared number market batch outcome) = true
@@ -136,10 +132,6 @@ clears_bounded reply = false
 
 abbrev pub reply_counts : Counts Reply
 reply_counts = record { batch = clears; bounded = clears_bounded; optimal = clears_optimal }
-
--- all lines are sound; so many of the replies clear a batch, and so many of these mark it optimal
-abbrev pub AreSoundLines : List (List ℕ) → ℕ → ℕ → ℕ → ℕ → Type 0
-AreSoundLines = AreSoundBy IsSoundLineOf reply_counts
 
 abbrev pub Says : List (List ℕ) → Report → Type 0
 Says = SaysBy IsSoundLineOf reply_counts HasReason

@@ -3,7 +3,7 @@ use Rattle.std.proofs.Common.{◌≡◌, ℕ, ◌*◌, ◌<◌, ◌≤◌, true,
 use Rattle.std.specs.Prelude.{nat_lt, if◌then◌else◌}
 use Rattle.std.specs.List.{fold}
 use Rattle.std.proofs.lemmas.Bool.Decides.{nat_tests}
-use Rattle.std.proofs.lemmas.Bool.{cases_lt}
+use Rattle.std.proofs.lemmas.Bool.{cases_lt, lt-ltb, ltb-true}
 use Rattle.std.proofs.lemmas.List.Elements.{All-nil, All-cons, All-head, All-tail, All-push, All-weaker}
 use native.Mathlib.Nat.{mul-le-mul_left}
 use Rattle.exact_num.specs.Fraction.{Fraction, over}
@@ -93,18 +93,12 @@ less_trans a b c p q r one h k = elim (cases_lt (a * r) (c * p)) [
   | inr le ↦ absurd (omega (arith, mul-le-mul_left q le, mul-le-mul_left r h, mul-le-mul_left p k))
 ]
 
-test_less : (a b : ℕ) → nat_lt a b ≡ true → a < b
-test_less a b h = grind (arith, nat_tests)
-
-less_test : (a b : ℕ) → a < b → nat_lt a b ≡ true
-less_test a b h = grind (arith, nat_tests)
-
 below_trans : (y z w : List ℕ) → 1 ≤ scale_of y → Below y z → Below z w → Below y w
 below_trans y z w one h k =
-    less_test (price_entry y * scale_of w) (price_entry w * scale_of y)
+    lt-ltb (price_entry y * scale_of w) (price_entry w * scale_of y)
     (less_trans (price_entry y) (price_entry z) (price_entry w) (scale_of y) (scale_of z) (scale_of w) one
-    (test_less (price_entry y * scale_of z) (price_entry z * scale_of y) h)
-    (test_less (price_entry z * scale_of w) (price_entry w * scale_of z) k))
+    (ltb-true (price_entry y * scale_of z) (price_entry z * scale_of y) h)
+    (ltb-true (price_entry z * scale_of w) (price_entry w * scale_of z) k))
 
 insert_rise : (ys : List (List ℕ)) (z : List ℕ) → IsPriced z → Rise ys → Rise (insert ys z)
 unfolding insert
@@ -137,6 +131,6 @@ unfolding in_rising_price
 rising_rise zs is =
     let rising = rising_all IsPriced zs is in
     let ys = in_rising_price zs in
-    let first : (z : List ℕ) → IsPriced z → Below first_state z = λ z h. less_test (0 * scale_of z) (price_entry z * 1) (omega (arith, h.above_zero)) in
-    let last : (z : List ℕ) → IsPriced z → Below z last_state = λ z h. less_test (price_entry z * 0) (1 * scale_of z) (omega (arith, h.lowest.positive)) in
+    let first : (z : List ℕ) → IsPriced z → Below first_state z = λ z h. lt-ltb (0 * scale_of z) (price_entry z * 1) (omega (arith, h.above_zero)) in
+    let last : (z : List ℕ) → IsPriced z → Below z last_state = λ z h. lt-ltb (price_entry z * 0) (1 * scale_of z) (omega (arith, h.lowest.positive)) in
     (All-push (Below first_state) ys last_state (All-weaker IsPriced (Below first_state) first ys rising) refl, rise_last ys last_state (All-weaker IsPriced (λ z. Below z last_state) last ys rising) (fold_rise [] zs is tt))

@@ -1,18 +1,14 @@
 -- The number of ways to choose, one thing after another.
 use Rattle.std.proofs.Common.{◌≡◌, ℕ, zero, suc, ◌+◌, ◌-◌, ◌*◌, ◌/◌, ◌<◌, ◌≤◌, Bool, true, false, refl, sym, ◌∙◌, ap, arith}
 use Rattle.std.specs.Prelude.{Option, Some, None, nat_lt, if◌then◌else◌}
-use Rattle.std.proofs.lemmas.Bool.Decides.{nat_tests}
 use Rattle.std.proofs.Math.Nat.{mul-div_cancel}
+use Rattle.std.proofs.lemmas.Bool.{ltb-false, ltb-true}
 use Rattle.simplex_run.specs.Choose.{choose}
-use Rattle.simplex_run.proofs.Counting.{choose_both}
+use Rattle.simplex_run.proofs.Counting.{choose_both, choose_none}
 
 -- the number of ways to choose b of a + b
 abbrev pub ways : ℕ → ℕ → ℕ
 ways a b = choose (a + b) b
-
-choose_of_none : (n : ℕ) → choose n 0 ≡ 1
-unfolding choose
-choose_of_none n = refl
 
 choose_too_many : (n k : ℕ) → n < k → choose n k ≡ 0
 unfolding choose
@@ -32,7 +28,7 @@ choose_of_all (suc b) =
     rw (none, all) refl
 
 pub ways_none : (a : ℕ) → ways a 0 ≡ 1
-ways_none a = choose_of_none (a + 0)
+ways_none a = choose_none (a + 0)
 
 ways_all : (b : ℕ) → ways 0 b ≡ 1
 ways_all b = let same : 0 + b ≡ b = omega arith in ap (λ n. choose n b) same ∙ choose_of_all b
@@ -100,17 +96,12 @@ more_is_more a b (suc d) =
     rw whole (omega (arith, one_more_is_more a b, more_is_more a (b + 1) d))
 
 -- ---- one step of the code
-below : (m n : ℕ) → nat_lt m n ≡ true → m < n
-below m n h = grind (arith, nat_tests)
-
-not_below : (m n : ℕ) → nat_lt m n ≡ false → n ≤ m
-not_below m n h = grind (arith, nat_tests)
 
 pub step_some : (r : Option ℕ) (v next limit : ℕ) → r ≡ (if nat_lt v limit then Some v else None) → r ≡ Some next → (next ≡ v) × (next < limit)
 step_some r v next limit e f = go (nat_lt v limit) refl (sym e ∙ f)
   where
     go : (b : Bool) → nat_lt v limit ≡ b → (if b then Some v else None) ≡ Some next → (next ≡ v) × (next < limit)
-    go true t k = let same : v ≡ next = cc in let low : v < limit = below v limit t in (sym same, omega (arith, same, low))
+    go true t k = let same : v ≡ next = cc in let low : v < limit = ltb-true v limit t in (sym same, omega (arith, same, low))
     go false t k = cc
 
 pub step_none : (r : Option ℕ) (v limit : ℕ) → r ≡ (if nat_lt v limit then Some v else None) → ((x : ℕ) → r ≡ Some x → ⊥) → limit ≤ v
@@ -118,7 +109,7 @@ step_none r v limit e f = go (nat_lt v limit) refl e
   where
     go : (b : Bool) → nat_lt v limit ≡ b → r ≡ (if b then Some v else None) → limit ≤ v
     go true t k = absurd (f v k)
-    go false t k = not_below v limit t
+    go false t k = ltb-false v limit t
 
 -- too many ways already: too many in the end
 pub too_many : (a b chosen limit : ℕ) → b < chosen → limit ≤ ways a (b + 1) → limit ≤ ways a chosen

@@ -1,45 +1,23 @@
 -- From the run in a space to what the call answers.
-use Rattle.std.proofs.Common.{◌≡◌, ℕ, zero, suc, ◌+◌, ◌*◌, ◌<◌, List, [], ◌∷◌, ◌++◌, length, map, take, drop, true, false, refl, sym, ◌∙◌, ap, subst, arith, vec_len, Vec, Global}
+use Rattle.std.proofs.Common.{◌≡◌, ℕ, zero, suc, ◌+◌, ◌*◌, ◌<◌, List, [], ◌∷◌, ◌++◌, length, map, take, drop, true, false, refl, sym, ◌∙◌, ap, subst, arith}
 use Rattle.std.specs.Prelude.{Result, Ok, Err}
-use Rattle.std.specs.List.{All}
-use Rattle.std.proofs.lemmas.Int.{ints}
-use Rattle.std.proofs.lemmas.List.{length-map, take_more, take_all}
-use Rattle.exact_num.specs.Fraction.{Fraction, IsLowest, IsNotBelowZero}
+use Rattle.std.proofs.lemmas.List.{take_more, take_all}
+use Rattle.exact_num.specs.Fraction.{Fraction}
 use Rattle.simplex_run.specs.Places.{at, fraction_zero}
 use Rattle.simplex_run.specs.Program.{LinearProgram}
 use Rattle.simplex_run.specs.Ending.{Ending, done, unbounded, wide_at, no_unit_left}
 use Rattle.simplex_run.specs.Run.{Optimum, optimum}
-use Rattle.simplex_run.specs.Optimum.{IsProgram, IsAsSaid}
+use Rattle.simplex_run.specs.Optimum.{IsAsSaid}
 use Rattle.simplex_run.specs.Units.{units_of}
 use Rattle.fraction_tableau.specs.Programs.{empty_program, with_row}
-use Rattle.linear_programs.specs.declared.program.Program.{Program}
 use Rattle.simplex.specs.declared.stop.RunStop.{RunStop}
 use Rattle.simplex.specs.declared.stop.RunStop.TheVariants.{Wide as RunWide, Budget as RunBudget}
 use Rattle.linear_programs.specs.declared.solved.Solved.{Solved}
 use Rattle.linear_programs.specs.declared.solved.Solved.TheVariants.{Optimal, Unbounded}
 use Rattle.simplex.specs.declared.stop.SolveStop.TheVariants.{Budget as OutOfBudget}
 use Rattle.simplex.specs.Stops.{stop_of}
-use Rattle.linear_programs.specs.Programs.{as_program}
 use Rattle.simplex.specs.Spaces.{Contents, nothing, given, found, rising, stopped, IsFound, IsRising, x_of, y_of, reduced_of, direction_of, value_of, answer_of, contents_after}
 use Rattle.linear_programs.specs.Answers.{solved_ending, solved_contents, IsAnswer, HoldsOf}
-use Rattle.fraction_tableau.proofs.ArenaSteps.{lowest_all}
-
--- ---- the program
-sign_items : {A : Type 0} (value : A → Fraction) (xs : List A) → All (λ b. IsNotBelowZero (value b)) xs → (j : ℕ) → IsNotBelowZero (at (map value xs) j)
-sign_items value [] h j = omega (arith, ints)
-sign_items value (x ∷ xs) h zero = h 0 x (omega arith)
-sign_items value (x ∷ xs) h (suc j) = sign_items value xs (λ k d low. h (suc k) d (omega (arith, low))) j
-
-count_items : {A : Type 0} (value : A → Fraction) (xs : Vec A Global) (n : ℕ) → vec_len xs ≡ n → length (map value xs.items) ≡ n
-count_items value xs n h = rw length-map (omega (arith, h, xs.ok))
-
-pub is_program : {A : Type 0} (value : A → Fraction) (p : Program A) → ((a : A) → IsLowest (value a)) → vec_len p.a ≡ p.m * p.n → vec_len p.b ≡ p.m → vec_len p.c ≡ p.n → All (λ b. IsNotBelowZero (value b)) p.b.items → IsProgram (as_program value p)
-is_program value p low a b c sign =
-    record {
-      coefficients = record { count = count_items value p.a _ a; lowest = lowest_all value low p.a.items };
-      right_sides = record { count = count_items value p.b _ b; lowest = lowest_all value low p.b.items; sign = sign_items value p.b.items sign };
-      costs = record { count = count_items value p.c _ c; lowest = lowest_all value low p.c.items };
-    }
 
 -- ---- what the run tells
 pub solved_is : {A : Type 0} (value : A → Fraction) (E : Ending Optimum) (solved : Solved A) (spent : ℕ) → solved_contents value solved ≡ contents_after E → spent ≡ units_of E → E ≡ solved_ending value solved spent

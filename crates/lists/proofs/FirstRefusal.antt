@@ -9,6 +9,11 @@ first_of-append {R} (r ∷ front) back =
     let Goal : Bool → Type 0 = λ b. (if b then Some r.1 else first_of (front ++ back)) ≡ option_or (if b then Some r.1 else first_of front) (first_of back) in
     elim r.0 as Goal [ true ↦ refl | false ↦ first_of-append front back ]
 
+-- where none is told, the first is not met, and the others tell none
+pub first_unmet : {R : Type 0} (met : Bool) (first : R) (others : Option R) → (if met then Some first else others) ≡ None → (met ≡ false) × (others ≡ None)
+first_unmet true first others none = cc
+first_unmet false first others none = (refl, none)
+
 -- where the list in front holds none, that behind it decides; and where neither does, both hold
 -- none
 pub first_behind : {R : Type 0} (front back : List (Bool × R)) → first_of front ≡ None → first_of (front ++ back) ≡ first_of back

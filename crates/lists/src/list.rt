@@ -32,12 +32,4 @@ impl<T> List<T> {
     {
         &self.items
     }
-
-    /// The items as they were put in. Takes no memory.
-    pub fn into_vec(self) -> Vec<T>
-        ensures { result.items ≡ self }
-    {
-        let List { items } = self;
-        items
-    }
 }

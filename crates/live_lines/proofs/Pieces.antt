@@ -1,16 +1,16 @@
 -- A piece that is taken line by line.
 use Rattle.std.proofs.Common.{◌≡◌, ◌≤◌, ℕ, ◌+◌, ◌-◌, List, [], ◌∷◌, ◌++◌, take, drop, length, refl, sym, ap, subst, ◌∙◌, inr, arith, take-append-drop, append-nil, append_assoc, length-drop, Option, None, Some}
-use Rattle.std.proofs.KnownBytes.{Appends-nil, Appends-trans}
+use Rattle.std.proofs.KnownBytes.{Appends-trans}
 use Rattle.std.proofs.lemmas.List.{take_all, take_rest}
 use Rattle.std.proofs.Math.Seq.{take-add}
 use Rattle.std.specs.Io.KnownBytes.{Appends}
 use Rattle.byte_streams.specs.Writes.{AppendsFront}
 use Rattle.live_lines.specs.Answering.{Answering, AnswersLine}
 use Rattle.live_lines.specs.Open.{Open, line_text}
-use Rattle.live_lines.specs.Taken.{Completes, IsOpenWithin, Stops, Took}
+use Rattle.live_lines.specs.Taken.{Completes, Stops, Took}
 use Rattle.live_lines.specs.Turns.{AddsAnswer, Answered, BeganLast, Turned, WroteLast}
 use Rattle.live_lines.proofs.Fronts.{front_behind, no_front}
-use Rattle.live_lines.proofs.Takes.{stops_more, took_complete, took_more, took_none}
+use Rattle.live_lines.proofs.Takes.{stops_more, took_complete, took_more}
 
 -- ---- one line
 module _ {S : Type 0} (Answers : Answering S) (old new : S) where
@@ -35,13 +35,6 @@ module _ {S : Type 0} (Answers : Answering S) (old new : S) where
 
 -- ---- lines of a piece
 module _ {S : Type 0} (Answers : Answering S) (old : S) (line : Open) (written : Option (List ℕ)) where
-  pub answered_none : IsOpenWithin line → (text : List ℕ) → text ≡ [] → Answered Answers old line old line written written [] text
-  answered_none within text none = record {
-    told = [];
-    wrote = Appends-nil written;
-    took = subst (Took Answers old line old line []) (sym none) (took_none Answers line.skips old line refl within);
-  }
-
   module _ (mid : S) (open_line : Open) (now : Option (List ℕ)) (piece text : List ℕ) (start : ℕ) (low : start ≤ length piece) (before : Answered Answers old line mid open_line written now (take start piece) text) where
     abbrev rest : List ℕ
     rest = take (length piece - start) (drop start piece)

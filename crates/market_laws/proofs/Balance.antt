@@ -1,7 +1,7 @@
 -- Fills that balance each bundle owe nothing: bundle by bundle, the amounts of its orders cancel.
 use Rattle.std.proofs.Common.{◌≡◌, ℕ, zero, suc, ◌≤◌, Bool, true, false, List, [], ◌∷◌, length, get_or, filter, arith, ℤ, pos, ◌+ℤ◌, ◌*ℤ◌, All, refl, ap, sym, ◌∙◌}
 use Rattle.std.proofs.lemmas.Int.{ints}
-use Rattle.std.proofs.lemmas.List.Elements.{All-filter}
+use Rattle.std.proofs.lemmas.List.Elements.{All-filter, All-head, All-tail}
 use Rattle.std.proofs.lemmas.List.Filters.{length-filter_both}
 use mathlib.Core.Bool.{not}
 use Rattle.form.specs.Payoff.{BundleLeg, bundle_of, bundle_payoff}
@@ -11,8 +11,6 @@ use Rattle.form.specs.Vector.{is_same_bundle}
 use Rattle.clearing_model.specs.Balance.{one_if, balance_of, AreBalanced}
 use Rattle.market_laws.specs.Laws.{BalancedOwesNothing}
 use Rattle.arithmetic.proofs.Products.{products}
-use Rattle.arithmetic.proofs.Sums.{All-head, All-tail}
-use Rattle.market_laws.proofs.Legs.{signed}
 
 -- whether a fill is of another bundle
 abbrev pub is_other : List BundleLeg → Filled → Bool
@@ -20,11 +18,6 @@ is_other bundle fill = not (is_same_bundle (bundle_of fill.0) bundle)
 
 abbrev pub others : List BundleLeg → List Filled → List Filled
 others bundle fills = filter (is_other bundle) fills
-
--- one fill more of a sum
-sum_first : (f : List BundleLeg → ℤ) (fill : Filled) (fills : List Filled)
-    → buys_less_sells (λ o. f (bundle_of o)) (fill ∷ fills) ≡ signed fill.0.side fill.1 (f (bundle_of fill.0)) +ℤ buys_less_sells (λ o. f (bundle_of o)) fills
-sum_first f fill fills = omega (arith, ints)
 
 filter_shorter : {A : Type 0} (p : A → Bool) (xs : List A) → length (filter p xs) ≤ length xs
 filter_shorter p xs = omega (arith, length-filter_both p (λ x. not (p x)) (λ x. refl) xs)

@@ -2,11 +2,11 @@
 use Rattle.std.proofs.Common.{◌≡◌, ℕ, ◌*◌, ◌/◌, ◌≤◌, List, [], ◌∷◌, ◌++◌, length, map, zip, arith, ℤ, pos, ◌-ℤ◌, ◌*ℤ◌, ◌≤ℤ◌, All, refl, ap, sym, subst, ◌∙◌}
 use Rattle.std.proofs.lemmas.Int.{ints}
 use Rattle.std.proofs.lemmas.List.{length-map, append-nil}
-use Rattle.std.proofs.lemmas.List.Elements.{All-nil, All-cons}
+use Rattle.std.proofs.lemmas.List.Elements.{All-cons, All-head, All-nil, All-tail}
 use Rattle.std.specs.Int.{◌∣◌}
 use native.Mathlib.Nat.{mul-div_cancel'}
 use Rattle.arithmetic.specs.Sums.{positive_part}
-use Rattle.exact_num.specs.Fraction.{Fraction, IsDefined, whole}
+use Rattle.exact_num.specs.Fraction.{Fraction, IsDefined, IsNotBelowZero, whole}
 use Rattle.exact_num.specs.CommonDenominator.{common_denominator, amount_over, amounts_over, amounts_of, IsRatio}
 use Rattle.form.specs.declared.orders.Order.{Order}
 use Rattle.form.specs.Payoff.{IsState, scale_of}
@@ -20,7 +20,6 @@ use Rattle.market_laws.specs.Laws.{TreeCertificateCovers, WrittenTreeCovers, Lin
 use Rattle.arithmetic.proofs.Integers.{*ℤ_mono, *ℤ_cancel_le}
 use Rattle.arithmetic.proofs.Products.{products}
 use Rattle.arithmetic.proofs.Parts.{positive_part_least}
-use Rattle.arithmetic.proofs.Sums.{All-head, All-tail}
 use Rattle.exact_num.proofs.Fractions.{divides, common_positive}
 use Rattle.market_laws.proofs.Payoff.{part-scale}
 use Rattle.market_laws.proofs.Legs.{signed_sums_agree}
@@ -71,6 +70,14 @@ fills_defined [] (f ∷ fs) h len = absurd (omega arith)
 fills_defined (o ∷ os) [] h len = absurd (omega arith)
 fills_defined (o ∷ os) (f ∷ fs) h len =
     All-cons IsDefined f fs (All-head IsFill (o, f) (zip os fs) h).0 (fills_defined os fs (All-tail IsFill (o, f) (zip os fs) h) (omega arith))
+
+-- that is not below 0
+pub fills_not_below : (orders : List Order) (fills : List Fraction) → All IsFill (zip orders fills) → length fills ≡ length orders → All IsNotBelowZero fills
+fills_not_below [] [] h len = All-nil IsNotBelowZero
+fills_not_below [] (f ∷ fs) h len = absurd (omega arith)
+fills_not_below (o ∷ os) [] h len = absurd (omega arith)
+fills_not_below (o ∷ os) (f ∷ fs) h len =
+    All-cons IsNotBelowZero f fs (All-head IsFill (o, f) (zip os fs) h).1 (fills_not_below os fs (All-tail IsFill (o, f) (zip os fs) h) (omega arith))
 
 -- so one that is enough over the denominators of a whole certificate gives the cover
 pub fills_cover : (n : ℕ) (orders : List Order) (fills rest : List Fraction) (L S : Fraction)

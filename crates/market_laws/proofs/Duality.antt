@@ -1,7 +1,7 @@
 -- Weak duality: every surplus that fills cover is at most the bound of every measure.
 use Rattle.std.proofs.Common.{◌≡◌, ℕ, zero, suc, ◌+◌, ◌*◌, ◌≤◌, List, [], ◌∷◌, length, map, arith, All, zip, ℤ, pos, ◌+ℤ◌, ◌-ℤ◌, ◌*ℤ◌, refl, ap, sym, ◌∙◌}
 use Rattle.std.proofs.lemmas.Int.{ints}
-use Rattle.std.proofs.lemmas.List.Elements.{All-nil, All-cons, All-tail}
+use Rattle.std.proofs.lemmas.List.Elements.{All-cons, All-head, All-nil, All-tail}
 use native.Mathlib.Nat.{mul-le-mul_left, mul-le-mul_right, le_of_mul-le-mul_left}
 use borrow.Author.Differences.{up, down}
 use Rattle.arithmetic.specs.Sums.{weigh}
@@ -17,7 +17,7 @@ use Rattle.market_laws.specs.Laws.{WeakDuality, ProvedIsGreatest}
 use Rattle.arithmetic.proofs.Integers.{*ℤ_mono}
 use Rattle.arithmetic.proofs.Products.{products}
 use Rattle.arithmetic.proofs.Parts.{positive_part_above, part_above}
-use Rattle.arithmetic.proofs.Sums.{All-head, weigh_swap, weigh-append}
+use Rattle.arithmetic.proofs.Sums.{weigh_swap, weigh-append}
 use Rattle.market_laws.proofs.Legs.{longs, shorts, long_amount, short_amount, of_option, pay, paid, got, signed, legs_of_order}
 use Rattle.market_laws.proofs.Rays.{covers_nat, nothing_owed}
 

@@ -1,7 +1,7 @@
 -- The greatest surplus does not fall when a bid rises or an ask falls.
 use Rattle.std.proofs.Common.{◌≡◌, ℕ, ◌*◌, ◌≤◌, List, [], ◌∷◌, ◌++◌, length, length-append, arith, All, zip, ℤ, pos, ◌+ℤ◌, ◌-ℤ◌, ◌*ℤ◌, ◌≤ℤ◌, refl, ap, sym, ◌∙◌}
 use Rattle.std.proofs.lemmas.Int.{ints}
-use Rattle.std.proofs.lemmas.List.Elements.{All-cons, All-tail}
+use Rattle.std.proofs.lemmas.List.Elements.{All-cons, All-head, All-tail}
 use Rattle.arithmetic.specs.Sums.{weigh_ℤ}
 use Rattle.form.specs.declared.orders.Side.{Side}
 use Rattle.form.specs.declared.orders.Side.TheVariants.{Buy, Sell}
@@ -9,7 +9,6 @@ use Rattle.form.specs.declared.orders.Order.{Order}
 use Rattle.form.specs.Payoff.{bundle_of, bundle_payoff}
 use Rattle.clearing_model.specs.Clearing.{Filled, bought, sold, if_buy, if_sell, net, premium, AreFills}
 use Rattle.arithmetic.proofs.Integers.{*ℤ_mono, *ℤ_mono_left}
-use Rattle.arithmetic.proofs.Sums.{All-head}
 use Rattle.market_laws.specs.Limits.{at_price, IsNoWorse, BetterLimitsCover, GreatestDoesNotFall}
 
 -- a sum over fills, where one order is another

@@ -3,7 +3,7 @@
 use Rattle.std.proofs.Common.{◌≡◌, ℕ, zero, suc, ◌+◌, ◌-◌, ◌*◌, ◌≤◌, ◌⊎◌, inl, inr, List, [], ◌∷◌, ◌++◌, map, get_or, nat_abs, arith, ℤ, pos, negsuc, neg_ℤ, ◌+ℤ◌, ◌*ℤ◌, ◌≤ℤ◌, ◌<ℤ◌, All, refl, ap, sym, subst, ◌∙◌}
 use Rattle.std.proofs.lemmas.Int.{ints}
 use Rattle.std.proofs.lemmas.Bool.{cases_lt}
-use Rattle.std.proofs.lemmas.List.Elements.{All-tail}
+use Rattle.std.proofs.lemmas.List.Elements.{All-head, All-tail}
 use native.Mathlib.Nat.{mul-le-mul_left, le_of_mul-le-mul_left}
 use borrow.Author.Differences.{up, down}
 use Rattle.arithmetic.specs.Sums.{weigh}
@@ -18,7 +18,7 @@ use Rattle.market_laws.specs.Laws.{LineCoversHold, HoldsAtMultiples}
 use Rattle.arithmetic.proofs.Integers.{*ℤ_mono, *ℤ_cancel_le, neg_ℤ-*ℤ}
 use Rattle.arithmetic.proofs.Products.{products}
 use Rattle.arithmetic.proofs.Parts.{part_above, part_below}
-use Rattle.arithmetic.proofs.Sums.{All-head, weigh_same}
+use Rattle.arithmetic.proofs.Sums.{weigh_same}
 use Rattle.market_laws.proofs.Payoff.{bundle_payoff-scale}
 use Rattle.market_laws.proofs.Legs.{longs, shorts, long_amount, short_amount, net_is, signed_sums_agree}
 
@@ -41,7 +41,7 @@ abbrev pub Agree : ℤ → ℤ → Type 0
 Agree x y = ((pos 0 ≤ℤ x) × (pos 0 ≤ℤ y)) ⊎ ((x ≤ℤ pos 0) × (y ≤ℤ pos 0))
 
 -- there the positive part is linear
-part_combined : (x y : ℤ) (i j : ℕ) → Agree x y → positive_part ((x *ℤ pos i) +ℤ (y *ℤ pos j)) ≡ i * positive_part x + j * positive_part y
+pub part_combined : (x y : ℤ) (i j : ℕ) → Agree x y → positive_part ((x *ℤ pos i) +ℤ (y *ℤ pos j)) ≡ i * positive_part x + j * positive_part y
 part_combined x y i j (inl h) =
     let a = part_above x h.0 in
     let b = part_above y h.1 in
@@ -72,10 +72,6 @@ pay_combined t s t' s' i j leg h =
 abbrev pub Each : {A : Type 0} → (A → Type 0) → List A → Type 0
 Each P [] = Unit {0}
 Each P (x ∷ xs) = P x × Each P xs
-
-each_from_all : {A : Type 0} (P : A → Type 0) (xs : List A) → All P xs → Each P xs
-each_from_all P [] h = tt
-each_from_all P (x ∷ xs) h = (All-head P x xs h, each_from_all P xs (All-tail P x xs h))
 
 pub each_then : {A : Type 0} (P Q : A → Type 0) (xs : List A) → ((x : A) → P x → Q x) → Each P xs → Each Q xs
 each_then P Q [] f h = tt
@@ -273,7 +269,7 @@ narrow_down legs L t s c leg breaks x y x1 y1 ex ey =
           }
     ]
 
-agree_swap : {x y : ℤ} → Agree x y → Agree y x
+pub agree_swap : {x y : ℤ} → Agree x y → Agree y x
 agree_swap (inl h) = inl (h.1, h.0)
 agree_swap (inr h) = inr (h.1, h.0)
 

@@ -19,9 +19,6 @@ pub cover_nat : (a b c d e t f : ℕ) (u : ℤ) → (u *ℤ pos f) ≤ℤ (pos e
 cover_nat a b c d e t f u h =
     omega (arith, ints, products, h)
 
-pub cover_int : (a b c d e t f : ℕ) (u : ℤ) → up u * f + e * (b * t + c) ≤ e * (a * t + d) + down u * f → (u *ℤ pos f) ≤ℤ (pos e *ℤ ((pos a -ℤ pos b) *ℤ pos t -ℤ (pos c -ℤ pos d)))
-cover_int a b c d e t f u h = omega (arith, ints, products, h)
-
 pub covers_nat : (n : ℕ) (fills : List Filled) (F : ℕ) (S : Fraction) → Covers n fills F S → (t : ℕ) (s : List ℕ) → 1 ≤ t → length s ≡ n
     → up S.numerator * (F * t) + S.denominator * (got fills * t + longs (pay (t ∷ s)) (legs_of fills)) ≤ S.denominator * (paid fills * t + shorts (pay (t ∷ s)) (legs_of fills)) + down S.numerator * (F * t)
 covers_nat n fills F S h t s one len =

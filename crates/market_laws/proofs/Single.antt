@@ -1,7 +1,7 @@
 -- Bundles of one leg with count 1.
 use Rattle.std.proofs.Common.{◌≡◌, ℕ, ◌*◌, List, [], ◌∷◌, arith, ℤ, pos, ◌*ℤ◌, refl, ap, ◌∙◌}
 use Rattle.std.proofs.lemmas.Int.{ints}
-use Rattle.std.proofs.lemmas.List.Elements.{All-tail}
+use Rattle.std.proofs.lemmas.List.Elements.{All-head, All-tail}
 use Rattle.form.specs.declared.orders.Side.{Side}
 use Rattle.form.specs.declared.orders.Side.TheVariants.{Buy, Sell}
 use Rattle.form.specs.declared.orders.Order.{Order}
@@ -11,7 +11,6 @@ use Rattle.clearing_model.specs.Legs.{FilledLeg, filled_leg, legs_of}
 use Rattle.clearing_model.specs.Measure.{WeightedState, price_of}
 use Rattle.market_laws.specs.Single.{OneLegPaysItsOption, GainsAreDifferences, LegsAreOrders, NetIsOfOptions, option_price, exposure_of_side, single_leg}
 use Rattle.arithmetic.proofs.Parts.{positive_part_is}
-use Rattle.arithmetic.proofs.Sums.{All-head}
 
 -- p of one leg with count 1
 over_one : (p : List ℤ → ℕ) (v : List ℤ) → over_legs p (one v) ≡ pos (p v)

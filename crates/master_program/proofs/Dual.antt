@@ -2,13 +2,12 @@
 use Rattle.std.proofs.Common.{◌≡◌, ℕ, zero, suc, ◌+◌, ◌*◌, ◌≤◌, ◌<◌, List, [], ◌∷◌, ◌++◌, length, map, replicate, zip, get_or, arith, ℤ, pos, negsuc, neg_ℤ, ◌+ℤ◌, ◌-ℤ◌, ◌*ℤ◌, ◌≤ℤ◌, All, refl, ap, sym, ◌∙◌, subst}
 use Rattle.std.proofs.lemmas.Int.{ints}
 use Rattle.std.proofs.lemmas.List.{length-map, map-append}
-use Rattle.std.proofs.lemmas.List.Elements.{All-cons}
+use Rattle.std.proofs.lemmas.List.Elements.{All-cons, All-head, All-tail}
 use Rattle.std.proofs.Math.Nat.{mul-pos}
 use Rattle.arithmetic.specs.Sums.{dot_ℤ, positive_part}
 use Rattle.arithmetic.proofs.Integers.{*ℤ_mono, *ℤ_mono_left, *ℤ_cancel, *ℤ_cancel_le}
 use Rattle.arithmetic.proofs.Products.{products}
 use Rattle.arithmetic.proofs.Dots.{dot-append, dot-scale}
-use Rattle.arithmetic.proofs.Sums.{All-head, All-tail}
 use Rattle.exact_num.specs.Fraction.{Fraction, IsDefined, IsLowest, whole, negated, plain_sum, plain_dot, IsNotBelowZero}
 use Rattle.exact_num.specs.CommonDenominator.{common_denominator, amount_over, signed_amounts_over, IsPart, AreParts}
 use Rattle.exact_num.proofs.Fractions.{divides, common_positive}

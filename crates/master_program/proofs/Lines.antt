@@ -1,6 +1,6 @@
 -- With one underlying, what is read off an optimum over the states of the line is the greatest.
 use Rattle.std.proofs.Common.{List, All}
-use Rattle.arithmetic.proofs.Sums.{All-tail}
+use Rattle.std.proofs.lemmas.List.Elements.{All-tail}
 use Rattle.form.specs.declared.orders.Order.{Order}
 use Rattle.form.specs.Vector.{IsState}
 use Rattle.cert_check.proofs.Certificate.{line_certificate_covers}

@@ -4,11 +4,10 @@ use Rattle.std.specs.Int.{◌∣◌}
 use Rattle.std.specs.List.{sum}
 use Rattle.std.proofs.lemmas.Int.{ints}
 use Rattle.std.proofs.lemmas.List.{length-map, length-append, length-replicate, take-append-drop, length-take-le, length-drop, map-append}
-use Rattle.std.proofs.lemmas.List.Elements.{All-nil, All-cons}
+use Rattle.std.proofs.lemmas.List.Elements.{All-cons, All-head, All-nil, All-tail}
 use Rattle.std.proofs.lemmas.List.Sums.{sum_by-cons}
 use Rattle.std.proofs.Math.Nat.{mul-pos}
 use Rattle.arithmetic.specs.Sums.{dot_ℤ}
-use Rattle.arithmetic.proofs.Sums.{All-head, All-tail}
 use Rattle.exact_num.specs.Fraction.{Fraction, IsLowest, IsDefined, whole, plain_dot, AtMost, IsNotBelowZero}
 use Rattle.exact_num.specs.CommonDenominator.{common_denominator, amounts_over, IsPart, AreParts}
 use Rattle.exact_num.proofs.Fractions.{divides, common_positive, amount_is_exact}

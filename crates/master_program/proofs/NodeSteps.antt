@@ -5,10 +5,11 @@ use Rattle.std.proofs.lemmas.Int.{ints}
 use Rattle.std.proofs.lemmas.List.{map-append}
 use Rattle.std.proofs.lemmas.Simd.{map-map}
 use Rattle.std.proofs.lemmas.Grind.{flat_map-append}
+use Rattle.std.proofs.lemmas.List.Elements.{All-head, All-tail}
+use Rattle.std.proofs.Math.IntN.{+ℤ_assoc}
 use Rattle.arithmetic.specs.Sums.{positive_part}
 use Rattle.arithmetic.proofs.GcdLaws.{pos_of_quotient}
 use Rattle.arithmetic.proofs.Products.{products}
-use Rattle.arithmetic.proofs.Sums.{All-head, All-tail}
 use Rattle.exact_num.specs.declared.misfit.Wide.{Wide}
 use Rattle.exact_num.specs.Fraction.{Fraction, whole, negated, reduced}
 use Rattle.exact_num.specs.CommonDenominator.{amount_over}
@@ -34,7 +35,6 @@ use Rattle.master_program.proofs.NodeTests.{filled_is}
 use Rattle.master_program.proofs.NodeShape.{later_count}
 use Rattle.master_program.proofs.NodeObjective.{reduced_is_lowest, reduced_part}
 use Rattle.exact_num.proofs.Amounts.{amount_is_natural}
-use Rattle.arithmetic.proofs.Signed.{+ℤ_assoc}
 use Rattle.arithmetic.proofs.Integers.{plus_negative}
 
 map-values : {A B : Type 0} (g : A → B) (f : ℕ → A) (m : ℕ) → map g (values f m) ≡ values (λ i. g (f i)) m

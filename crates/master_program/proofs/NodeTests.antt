@@ -2,25 +2,12 @@
 use Rattle.std.proofs.Common.{◌≡◌, ℕ, zero, suc, ◌*◌, ◌≤◌, true, false, Bool, ◌&&◌, int_lt, arith, ℤ, pos, negsuc, ◌*ℤ◌, ◌≤ℤ◌, ◌<ℤ◌, refl, ap, sym, ◌∙◌}
 use Rattle.std.proofs.lemmas.Int.{ints}
 use Rattle.std.proofs.Math.Nat.{mul-pos}
+use Rattle.std.proofs.Math.Bool.{and-false}
 use Rattle.arithmetic.specs.Sums.{positive_part}
 use Rattle.arithmetic.proofs.Integers.{*ℤ_mono, *ℤ_mono_lt}
 use Rattle.arithmetic.proofs.Parts.{part_below}
-use Rattle.arithmetic.proofs.Tests.{int_lt-yes, int_lt-no}
+use Rattle.arithmetic.proofs.Tests.{int_lt-no, int_lt-yes}
 use Rattle.master_program.specs.Roles.{is_positive}
-
-pub lt_test : (a b : ℤ) → a <ℤ b → int_lt a b ≡ true
-lt_test a b h = by (int_lt a b) refl
-  where
-    by : (t : Bool) → int_lt a b ≡ t → int_lt a b ≡ true
-    by true e = e
-    by false e = absurd (omega (arith, ints, h, int_lt-no a b e))
-
-pub not_lt_test : (a b : ℤ) → b ≤ℤ a → int_lt a b ≡ false
-not_lt_test a b h = by (int_lt a b) refl
-  where
-    by : (t : Bool) → int_lt a b ≡ t → int_lt a b ≡ false
-    by false e = e
-    by true e = absurd (omega (arith, ints, h, int_lt-yes a b e))
 
 -- ---- an amount is above 0 exactly where the fill and the size of the count are
 pub positive_yes : (m : ℕ) → 1 ≤ m → is_positive m ≡ true
@@ -30,16 +17,12 @@ positive_yes (suc m) h = refl
 pub positive_no : (m : ℕ) → m ≡ 0 → is_positive m ≡ false
 positive_no m h = ap is_positive h
 
-and_false : (b : Bool) → (b && false) ≡ false
-and_false true = refl
-and_false false = refl
-
 above_part : (v : ℤ) → pos 0 <ℤ v → 1 ≤ positive_part v
 above_part (pos m) h = omega (arith, ints, h)
 above_part (negsuc m) h = absurd (omega (arith, ints, h))
 
 pub filled_is : (n : ℤ) (q size : ℕ) → 1 ≤ q → (int_lt (pos 0) n && is_positive size) ≡ is_positive (positive_part (n *ℤ pos q) * size)
-filled_is n q zero one = and_false (int_lt (pos 0) n) ∙ sym (positive_no (positive_part (n *ℤ pos q) * 0) (omega arith))
+filled_is n q zero one = and-false (int_lt (pos 0) n) ∙ sym (positive_no (positive_part (n *ℤ pos q) * 0) (omega arith))
 filled_is n q (suc b) one = by (int_lt (pos 0) n) refl
   where
     by : (t : Bool) → int_lt (pos 0) n ≡ t → (int_lt (pos 0) n && true) ≡ is_positive (positive_part (n *ℤ pos q) * suc b)

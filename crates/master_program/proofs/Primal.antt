@@ -2,12 +2,11 @@
 use Rattle.std.proofs.Common.{◌≡◌, ℕ, suc, ◌+◌, ◌*◌, ◌≤◌, ◌<◌, List, [], ◌∷◌, ◌++◌, length, map, replicate, zip, arith, ℤ, pos, ◌+ℤ◌, ◌-ℤ◌, ◌*ℤ◌, ◌≤ℤ◌, All, refl, ap, sym, ◌∙◌}
 use Rattle.std.proofs.lemmas.Int.{ints}
 use Rattle.std.proofs.lemmas.List.{length-map}
-use Rattle.std.proofs.lemmas.List.Elements.{All-nil, All-cons}
+use Rattle.std.proofs.lemmas.List.Elements.{All-cons, All-head, All-nil, All-tail}
 use Rattle.std.specs.Int.{◌∣◌}
 use Rattle.arithmetic.specs.Sums.{dot_ℤ}
 use Rattle.arithmetic.proofs.Integers.{*ℤ_mono, *ℤ_cancel_le}
 use Rattle.arithmetic.proofs.Products.{products}
-use Rattle.arithmetic.proofs.Sums.{All-head, All-tail}
 use Rattle.exact_num.specs.Fraction.{Fraction, IsDefined, IsLowest, whole, plain_dot, AtMost, IsNotBelowZero}
 use Rattle.exact_num.specs.CommonDenominator.{common_denominator, amount_over, signed_amounts_over, IsPart, AreParts}
 use Rattle.exact_num.proofs.Fractions.{divides, common_positive, amount_is_exact}

@@ -36,7 +36,7 @@ last_apart (x ∷ y ∷ xs) zero h = absurd (omega (arith, h))
 last_apart (x ∷ xs) (suc k) h = ap (λ v. x ∷ v) (last_apart xs k (omega (arith, h)))
 
 -- ---- the state where all prices are 0
-zero_prices_are : (n : ℕ) → IsState n (zero_prices n)
+pub zero_prices_are : (n : ℕ) → IsState n (zero_prices n)
 zero_prices_are n =
     let zeros : List ℕ = replicate n 0 in
     let none : ℕ = 0 in

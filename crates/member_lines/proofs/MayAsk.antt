@@ -1,5 +1,6 @@
 -- Of an account its owner may ask, and the operator, and no other.
 use Rattle.std.proofs.Common.{◌≡◌, ℕ, true, false, not, ◌&&◌, Ok, Some, if◌then◌else◌, sym, ap, ◌∙◌, subst}
+use Rattle.std.proofs.lemmas.Option.{same_Some}
 use Rattle.asked_lines.specs.Requests.{may_be_asked}
 use Rattle.command_text.specs.declared.command.Command.TheVariants as command
 use Rattle.command_text.specs.declared.requests.Request.{Request}
@@ -12,7 +13,6 @@ use Rattle.members.proofs.ToldNothing.{others_are_told_nothing}
 use Rattle.member_lines.specs.Asked.{OthersMayNotAsk, SaidAsks, asked_said}
 use Rattle.member_lines.specs.Laws.{tells_of}
 use Rattle.member_lines.specs.Refused.{refused_text}
-use Rattle.member_lines.proofs.Telling.{same_account}
 
 module _ (owners : Owned) (session account : ℕ) (other : owns owners session account ≡ false) (member : is_operator session ≡ false) where
   nothing : IsToldNothing owners session account
@@ -24,10 +24,10 @@ module _ (owners : Owned) (session account : ℕ) (other : owns owners session a
 
   not_to : (request : Request) → tells_of request ≡ Some account → NotTo request
   not_to (asks.Command (command.Balance named)) is =
-      subst (λ a. NotTo (asks.Command (command.Balance a))) (sym (same_account named account is)) (ap (λ b. not b) nothing.balance.1)
-  not_to (asks.Positions named market) is = subst (λ a. NotTo (asks.Positions a market)) (sym (same_account named account is)) (ap (λ b. not b) (nothing.positions market).1)
-  not_to (asks.Margin request) is = ap (λ b. not b) (nothing.margin request (same_account request.account account is)).1
-  not_to (asks.Need named) is = subst (λ a. NotTo (asks.Need a)) (sym (same_account named account is)) (ap (λ b. not b) nothing.need.1)
+      subst (λ a. NotTo (asks.Command (command.Balance a))) (sym (same_Some named account is)) (ap (λ b. not b) nothing.balance.1)
+  not_to (asks.Positions named market) is = subst (λ a. NotTo (asks.Positions a market)) (sym (same_Some named account is)) (ap (λ b. not b) (nothing.positions market).1)
+  not_to (asks.Margin request) is = ap (λ b. not b) (nothing.margin request (same_Some request.account account is)).1
+  not_to (asks.Need named) is = subst (λ a. NotTo (asks.Need a)) (sym (same_Some named account is)) (ap (λ b. not b) nothing.need.1)
   not_to (asks.Command (command.Open named)) is = cc
   not_to (asks.Command (command.Deposit named amount)) is = cc
   not_to (asks.Command (command.Withdraw named amount)) is = cc

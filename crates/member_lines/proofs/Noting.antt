@@ -2,6 +2,7 @@
 use Rattle.std.proofs.Common.{◌≡◌, ℕ, ◌+◌, Bool, true, false, ◌||◌, List, [], ◌∷◌, ◌++◌, nat_eq, nat_lt, Option, Some, None, if◌then◌else◌, refl, ap, ◌∙◌, arith}
 use Rattle.std.specs.Option.{option_map_or}
 use Rattle.std.proofs.lemmas.Bool.Decides.{nat_tests}
+use Rattle.lists.proofs.FirstRefusal.{first_unmet}
 use Rattle.cash_ledger.specs.Ledger.{is_open}
 use Rattle.command_text.specs.declared.command.Command.{Command}
 use Rattle.command_text.specs.declared.command.Command.TheVariants.{Open, Deposit, Withdraw, Market, Trade, Bundle, Cancel, Clear, Settle, Balance}
@@ -35,11 +36,6 @@ not_less n = grind (arith, nat_tests)
 
 less_next : (n : ℕ) → nat_lt n (n + 1) ≡ true
 less_next n = grind (arith, nat_tests)
-
--- the first refusal is not met where none is
-first_unmet : {R : Type 0} (met : Bool) (first : R) (later : Option R) → (if met then Some first else later) ≡ None → met ≡ false
-first_unmet true first later none = cc
-first_unmet false first later none = refl
 
 -- ---- where the exchange stays as it is
 abbrev open_aim : ExchangeState → ℕ → Bool → Aim
@@ -79,7 +75,7 @@ module _ (members : MembersState) (session : ℕ) (state : ExchangeState) where
   placed order = ap (λ b. option_map_or (after_reply members session) (if b then Some (reply.Placed (next_order state)) else None) members) (less_next (next_order state))
 
   accepted : (command : Command) → refusal_of state command ≡ None → Noted command (effect state command)
-  accepted (Open account) none = opened account (first_unmet (is_open_in state account) AccountExists _ none)
+  accepted (Open account) none = opened account (first_unmet (is_open_in state account) AccountExists _ none).0
   accepted (Deposit account amount) none = refl
   accepted (Withdraw account amount) none = refl
   accepted (Market market underlyings) none = refl

@@ -1,5 +1,6 @@
 -- Of an account its owner is told, and the operator, and no other.
 use Rattle.std.proofs.Common.{◌≡◌, ℕ, false, not, Some, None, if◌then◌else◌, sym, ap, ◌∙◌, subst}
+use Rattle.std.proofs.lemmas.Option.{same_Some}
 use Rattle.command_text.specs.declared.command.Command.TheVariants as command
 use Rattle.command_text.specs.declared.requests.Request.{Request}
 use Rattle.command_text.specs.declared.requests.Request.TheVariants as asks
@@ -13,9 +14,6 @@ use Rattle.member_lines.specs.Laws.{OthersAreRefused, refusal_of_said, tells_of}
 use Rattle.member_lines.specs.Runs.{Opens, SaidStep}
 use Rattle.member_lines.proofs.Passing.{refusals_are_told}
 
-pub same_account : (a b : ℕ) → Some a ≡ Some b → a ≡ b
-same_account a b is = cc
-
 module _ (owners : Owned) (session account : ℕ) (other : owns owners session account ≡ false) (member : is_operator session ≡ false) where
   nothing : IsToldNothing owners session account
   nothing = others_are_told_nothing owners session account other member
@@ -24,10 +22,10 @@ module _ (owners : Owned) (session account : ℕ) (other : owns owners session a
   NotAllowedTo request = is_allowed owners session request ≡ false
 
   not_allowed : (request : Request) → tells_of request ≡ Some account → NotAllowedTo request
-  not_allowed (asks.Command (command.Balance named)) is = subst (λ a. NotAllowedTo (asks.Command (command.Balance a))) (sym (same_account named account is)) nothing.balance.0
-  not_allowed (asks.Positions named market) is = subst (λ a. NotAllowedTo (asks.Positions a market)) (sym (same_account named account is)) (nothing.positions market).0
-  not_allowed (asks.Margin request) is = (nothing.margin request (same_account request.account account is)).0
-  not_allowed (asks.Need named) is = subst (λ a. NotAllowedTo (asks.Need a)) (sym (same_account named account is)) nothing.need.0
+  not_allowed (asks.Command (command.Balance named)) is = subst (λ a. NotAllowedTo (asks.Command (command.Balance a))) (sym (same_Some named account is)) nothing.balance.0
+  not_allowed (asks.Positions named market) is = subst (λ a. NotAllowedTo (asks.Positions a market)) (sym (same_Some named account is)) (nothing.positions market).0
+  not_allowed (asks.Margin request) is = (nothing.margin request (same_Some request.account account is)).0
+  not_allowed (asks.Need named) is = subst (λ a. NotAllowedTo (asks.Need a)) (sym (same_Some named account is)) nothing.need.0
   not_allowed (asks.Command (command.Open named)) is = cc
   not_allowed (asks.Command (command.Deposit named amount)) is = cc
   not_allowed (asks.Command (command.Withdraw named amount)) is = cc

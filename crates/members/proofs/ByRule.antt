@@ -1,5 +1,5 @@
 -- What an account has changes by its owner, and by the operator's deposits, clears and settlements.
-use Rattle.std.proofs.Common.{◌≡◌, ℕ, ◌+◌, Bool, true, false, not, List, [], ◌∷◌, ◌++◌, append-nil, nat_eq, take, All, Contains, ◌⊎◌, inl, inr, Option, Some, None, is_some, if◌then◌else◌, refl, sym, ap, subst, arith}
+use Rattle.std.proofs.Common.{◌≡◌, ℕ, ◌+◌, Bool, true, false, not, List, [], ◌∷◌, ◌++◌, append-nil, nat_eq, take, All, Contains, ◌⊎◌, inl, inr, ⊎_elim, Option, Some, None, is_some, if◌then◌else◌, refl, sym, ap, subst, arith}
 use Rattle.std.specs.Option.{option_map_or}
 use Rattle.std.proofs.lemmas.Bool.Decides.{nat_tests}
 use Rattle.std.proofs.lemmas.List.Elements.{All-nil, All-cons, All-push, All-weaker, All-contains_itself, Contains-append_left}
@@ -34,14 +34,14 @@ use Rattle.exchange_core.specs.Refusals.{book_name, by_book, by_ledger, refusal_
 use Rattle.exchange_core.specs.Step.{batch_in, cleared_with, effect, place_effect, refusal_effect, step, with_entry}
 use Rattle.exchange_core.proofs.Keeping.{clears_keep, step_keeps}
 use Rattle.exchange_core.proofs.LiveAccounts.{All-live_in, All-replaced, All-without_in_each}
-use Rattle.members.specs.Laws.{AddsEntries, Event, Said, Charged, IsByRule, IsCancelledBy, IsCleared, IsEnding, IsEntryBy, IsOperator, IsOwner, IsPlacedBy, IsSettled, Managed, MayCome, MovesAreByRule, after_event, after_passed, command_in, refusal_to, session_in}
+use Rattle.members.specs.Laws.{AddsEntries, Event, Said, Charged, IsByRule, IsCancelledBy, IsCleared, IsEndedBy, IsEntryBy, IsOperator, IsOwner, IsPlacedBy, IsSettled, Managed, MayCome, MovesAreByRule, after_event, after_passed, command_in, refusal_to, session_in}
 use Rattle.members.specs.Members.{Owned, is_allowed, is_over, owns}
 use Rattle.members.specs.Rule.{is_among, sender_of, side_word}
 use Rattle.members.specs.declared.refusal.MemberRefusal.{MemberRefusal}
 use Rattle.members.specs.declared.refusal.MemberRefusal.TheVariants.{NotAllowed, Quota}
 use Rattle.members.proofs.EntryCauses.{all_payoffs_by, all_premiums_by}
 use Rattle.members.proofs.Listings.{listing-with_live_in, listing-without_in_each}
-use Rattle.members.proofs.LiveMoves.{all_but_found, all_stay}
+use Rattle.members.proofs.LiveMoves.{all_but_found, all_stay, all_stay_but}
 use Rattle.members.proofs.OwnerLists.{owner_is}
 
 -- ---- the order that is cancelled is the account's
@@ -87,7 +87,7 @@ module _ (owners : Owned) (session : ℕ) (state : ExchangeState) where
 
   -- an order is live after, or the session's, or ended
   abbrev Gone : Command → ExchangeState → Order → Type 0
-  Gone command after order = Contains (all_live after) order ⊎ (IsCancelledBy owners session command state order ⊎ IsEnding session command)
+  Gone command after order = Contains (all_live after) order ⊎ (IsCancelledBy owners session command state order ⊎ (IsOperator session × IsEndedBy command state order))
 
   were_live : (command : Command) → All (Placed command) live
   were_live command = All-weaker (Contains live) (Placed command) (λ order at. inl at) live (All-contains_itself live)
@@ -95,8 +95,11 @@ module _ (owners : Owned) (session : ℕ) (state : ExchangeState) where
   still_live : (command : Command) (after : ExchangeState) → All (Contains (all_live after)) live → All (Gone command after) live
   still_live command after still = All-weaker (Contains (all_live after)) (Gone command after) (λ order at. inl at) live still
 
-  ended : (command : Command) (after : ExchangeState) → IsEnding session command → All (Gone command after) live
-  ended command after is = All-weaker (Contains live) (Gone command after) (λ order at. inr (inr is)) live (All-contains_itself live)
+  ended : (command : Command) (after : ExchangeState) → IsOperator session → All (λ order. Contains (all_live after) order ⊎ IsEndedBy command state order) live
+      → All (Gone command after) live
+  ended command after operator each =
+      All-weaker (λ order. Contains (all_live after) order ⊎ IsEndedBy command state order) (Gone command after)
+      (λ order. ⊎_elim (λ at. inl at) (λ at. inr (inr (operator, at)))) live each
 
   no_entries : (command : Command) → AddsEntries owners session command state state.entries
   no_entries command = record { added = []; joined = sym (append-nil state.entries); each = All-nil (IsEntryBy owners session command state) }
@@ -169,7 +172,7 @@ module _ (owners : Owned) (session : ℕ) (state : ExchangeState) where
   order_cancelled account number kept none own =
       let markets = state.book.markets in
       let is = cancelled state.book account number (cancel_none state account number none) in
-      let Ours : Order → Type 0 = λ order. IsCancelledBy owners session (Cancel account number) state order ⊎ IsEnding session (Cancel account number) in
+      let Ours : Order → Type 0 = λ order. IsCancelledBy owners session (Cancel account number) state order ⊎ (IsOperator session × IsEndedBy (Cancel account number) state order) in
       let ours : Ours is.order = inl (subst (IsOwner owners session) (sym is.own) own, (number, ap (λ (a : ℕ). Cancel a number) (sym is.own), is.found)) in
       record {
         entries = no_entries (Cancel account number);
@@ -192,9 +195,9 @@ module _ (owners : Owned) (session : ℕ) (state : ExchangeState) where
           each = all_premiums_by owners session said state operator (state.book.finished + 1) orders fills cleared;
         };
         placed = All-replaced (Placed said) market (λ m. with_live m []) [] (λ m. refl) state.book.markets (were_live said) (All-nil (Placed said));
-        gone = ended said (cleared_with state market fills) (operator, refl);
+        gone = ended said (cleared_with state market fills) operator (all_stay_but (λ m. with_live m []) market state.book.markets);
         markets = inr operator;
-        positions = inr operator;
+        positions = inr (operator, (fills, refl));
       }
 
   market_settled : (market count : ℕ) (prices : List ℕ) → IsOperator session → ByRule (Settle market count prices) (effect state (Settle market count prices)).1
@@ -210,9 +213,9 @@ module _ (owners : Owned) (session : ℕ) (state : ExchangeState) where
           each = all_payoffs_by owners session said state operator (take count prices) held settled;
         };
         placed = All-replaced (Placed said) market settled_market [] (λ m. refl) state.book.markets (were_live said) (All-nil (Placed said));
-        gone = ended said (effect state said).1 (operator, refl);
+        gone = ended said (effect state said).1 operator (all_stay_but settled_market market state.book.markets);
         markets = inr operator;
-        positions = inr operator;
+        positions = inr (operator, refl);
       }
 
   -- a command that the rule allows and the exchange accepts

@@ -4,13 +4,11 @@ use Rattle.std.specs.List.{find}
 use Rattle.std.specs.Map.{lookup}
 use Rattle.std.specs.Option.{option_map_or}
 use Rattle.std.proofs.lemmas.List.Elements.{All-nil, All-cons, All-append, All-weaker, All-contains_itself, Contains-get_or, Contains-append_left, Contains-append_right}
+use Rattle.std.proofs.lemmas.Option.{same_Some}
 use Rattle.form.specs.declared.orders.Order.{Order}
-use Rattle.order_book.specs.Markets.{MarketState, Markets, has_number, live_in, live_orders, with_live, with_live_in, without, without_in_each}
+use Rattle.order_book.specs.Markets.{MarketState, Markets, changed_in, has_number, live_in, live_orders, with_live, with_live_in, without, without_in_each}
 use Rattle.order_book.specs.Numbers.{number_count}
 use Rattle.order_book.proofs.AllLive.{live-without_in_each}
-
-some_same : (a b : Order) → Some a ≡ Some b → a ≡ b
-some_same a b is = cc
 
 -- ---- one comes
 -- where the live orders of a market become others among which they still are, all live orders stay
@@ -37,6 +35,34 @@ all_stay market live (m ∷ markets) still = by (nat_eq market m.0) still (all_s
         All-append Now m.1.live others
         (All-weaker (Contains m.1.live) Now (λ x at. Contains-append_left m.1.live changed x at) m.1.live (All-contains_itself m.1.live))
         (All-weaker (Contains changed) Now (λ x at. Contains-append_right m.1.live changed x at) others (later h))
+
+-- ---- a market's go
+-- where a market changes, each live order stays, or is of that market
+pub all_stay_but : (change : MarketState → MarketState) (market : ℕ) (markets : Markets)
+    → All (λ x. Contains (live_orders (changed_in change market markets)) x ⊎ Contains (live_in market markets) x) (live_orders markets)
+all_stay_but change market [] = All-nil (λ (x : Order). Contains [] x ⊎ Contains [] x)
+all_stay_but change market (m ∷ markets) = by (nat_eq market m.0) (all_stay_but change market markets)
+  where
+    others : List Order
+    others = live_orders markets
+
+    changed : List Order
+    changed = live_orders (changed_in change market markets)
+
+    by : (b : Bool) → All (λ x. Contains changed x ⊎ Contains (live_in market markets) x) others
+        → All (λ x. Contains (live_orders (if b then (m.0, change m.1) ∷ markets else m ∷ changed_in change market markets)) x
+        ⊎ Contains (option_map_or (λ (s : MarketState). s.live) (cond b (Some m.1) (lookup (nat_eq market) markets)) []) x) (m.1.live ++ others)
+    by true later =
+        let Now : Order → Type 0 = λ x. Contains ((change m.1).live ++ others) x ⊎ Contains m.1.live x in
+        All-append Now m.1.live others
+        (All-weaker (Contains m.1.live) Now (λ x at. inr at) m.1.live (All-contains_itself m.1.live))
+        (All-weaker (Contains others) Now (λ x at. inl (Contains-append_right (change m.1).live others x at)) others (All-contains_itself others))
+    by false later =
+        let Now : Order → Type 0 = λ x. Contains (m.1.live ++ changed) x ⊎ Contains (live_in market markets) x in
+        All-append Now m.1.live others
+        (All-weaker (Contains m.1.live) Now (λ x at. inl (Contains-append_left m.1.live changed x at)) m.1.live (All-contains_itself m.1.live))
+        (All-weaker (λ x. Contains changed x ⊎ Contains (live_in market markets) x) Now
+        (λ x. ⊎_elim (λ at. inl (Contains-append_right m.1.live changed x at)) (λ at. inr at)) others later)
 
 -- ---- one goes
 module _ (number : ℕ) where
@@ -107,4 +133,4 @@ module _ (number : ℕ) where
       one : (x : Order) → IsLeft (live_orders markets) x → IsFound (live_orders markets) x → Contains (without number (live_orders markets)) x ⊎ Q x
       one x is_left is_found =
           ⊎_elim (λ here. inl here)
-          (λ numbered. let same : found ≡ x = some_same found x (sym at ∙ is_found numbered) in inr (subst Q same q)) is_left
+          (λ numbered. let same : found ≡ x = same_Some found x (sym at ∙ is_found numbered) in inr (subst Q same q)) is_left

@@ -2,6 +2,7 @@
 use Rattle.std.proofs.Common.{◌≡◌, ◌≤◌, ℕ, ◌+◌, Bool, true, false, not, ◌&&◌, ◌||◌, List, [], ◌∷◌, ◌++◌, nat_le, Option, Some, None, if◌then◌else◌, refl, sym, ap, ◌∙◌, subst, arith}
 use Rattle.std.specs.Option.{option_map, option_map_or}
 use Rattle.std.proofs.lemmas.List.Elements.{All-push}
+use Rattle.std.proofs.lemmas.Option.{same_Some}
 use Rattle.cash_ledger.specs.Ledger.{is_open}
 use Rattle.cash_ledger.specs.Refusals.{open_refusals}
 use Rattle.cash_ledger.specs.declared.ledger.LedgerRefusal.{LedgerRefusal}
@@ -42,9 +43,6 @@ both_false false b h = h
 test_false : (a b : Bool) → a ≡ true → (a && b) ≡ false → b ≡ false
 test_false true b is h = h
 test_false false b is h = cc
-
-one_owner : (a b : ℕ) → Some a ≡ Some b → a ≡ b
-one_owner a b is = cc
 
 trading_at : (state : ExchangeState) (order : NewOrder) → first_of (place_refusals state order) ≡ None → is_trading state.book order.market ≡ true
 trading_at state order none =
@@ -93,7 +91,7 @@ module _ (members : MembersState) (state : ExchangeState) (kept : IsKept state) 
         were = in_live Few none_few order.market state.book.markets few
 
         same : owns members.owners q order.account ≡ true → q ≡ speaker
-        same is = one_owner q speaker (sym (owner_is members.owners q order.account is) ∙ owner_is members.owners speaker order.account own)
+        same is = same_Some q speaker (sym (owner_is members.owners q order.account is) ∙ owner_is members.owners speaker order.account own)
 
         room : q ≡ speaker → own_live members.owners q before + 1 ≤ MAX_OWN_LIVE
         room is =

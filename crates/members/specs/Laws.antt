@@ -8,7 +8,7 @@ use Rattle.cash_ledger.specs.declared.entry.Entry.{Entry}
 use Rattle.clearing_model.specs.Certificate.{AreFractionFills}
 use Rattle.form.specs.declared.orders.Order.{Order}
 use Rattle.command_text.specs.declared.command.Command.{Command}
-use Rattle.command_text.specs.declared.command.Command.TheVariants.{Open, Deposit, Withdraw, Market, Trade, Bundle, Cancel, Clear, Settle, Balance}
+use Rattle.command_text.specs.declared.command.Command.TheVariants.{Deposit, Withdraw, Cancel, Clear, Settle, Balance}
 use Rattle.command_text.specs.declared.requests.MarginRequest.{MarginRequest}
 use Rattle.command_text.specs.declared.requests.Request.{Request}
 use Rattle.command_text.specs.declared.requests.Request.TheVariants as asks
@@ -17,16 +17,17 @@ use Rattle.frac.specs.declared.frac128.Frac128.{Frac128}
 use Rattle.frac.specs.Value.{fraction_of}
 use Rattle.lists.specs.Refusals.{first_of}
 use Rattle.order_book.specs.declared.new_order.NewOrder.{NewOrder}
-use Rattle.order_book.specs.Book.{order_of, with_number}
+use Rattle.order_book.specs.Book.{live_of, order_of, with_number}
 use Rattle.order_book.specs.Markets.{Markets, MarketState}
 use Rattle.order_book.specs.Refusals.{batch_refusals}
 use Rattle.exchange_core.specs.ExchangeState.{ExchangeState, all_live}
 use Rattle.exchange_core.specs.Kept.{IsKept}
 use Rattle.exchange_core.specs.Orders.{order_of as new_order_of}
+use Rattle.exchange_core.specs.Positions.{positions_in}
 use Rattle.exchange_core.specs.Refusals.{by_book}
 use Rattle.exchange_core.specs.Step.{batch_in, cleared_with, step}
 use Rattle.settlement.specs.declared.position.Position.{Position}
-use Rattle.settlement.specs.Positions.{held_in}
+use Rattle.settlement.specs.Positions.{held_in, outside}
 use Rattle.members.specs.Members.{MembersState, Owned, after_reply, counted_of, is_allowed, may_ask, own_live, owner_of, owns}
 use Rattle.members.specs.Refusals.{rule_refusals}
 use Rattle.members.specs.Rule.{is_operator}
@@ -180,21 +181,19 @@ IsCancelledBy owners session command before order =
     IsOwner owners session order.account
     × ((number : ℕ) × (command ≡ Cancel order.account number) × (order_of before.book number ≡ Some order))
 
--- a clear or a settlement, by which live orders lapse
-abbrev pub is_ending : Command → Bool
-is_ending (Open account) = false
-is_ending (Deposit account amount) = false
-is_ending (Withdraw account amount) = false
-is_ending (Market market underlyings) = false
-is_ending (Trade side account market kind strike price quantity count weights) = false
-is_ending (Bundle side account market price quantity bundle) = false
-is_ending (Cancel account order) = false
-is_ending (Clear market budget) = true
-is_ending (Settle market count prices) = true
-is_ending (Balance account) = false
+-- or the command clears or settles the market in which it is live
+abbrev pub IsEndedBy : Command → ExchangeState → Order → Type 0
+IsEndedBy (Clear market budget) before order = Contains (live_of before.book market) order
+IsEndedBy (Settle market count prices) before order = Contains (live_of before.book market) order
+IsEndedBy command before order = ⊥
 
-abbrev pub IsEnding : ℕ → Command → Type 0
-IsEnding session command = IsOperator session × (is_ending command ≡ true)
+-- what a clear fills of the orders that are live in its market are positions more; a settlement takes
+-- out those of its market
+abbrev pub ArePositionsBy : Command → ExchangeState → List Position → Type 0
+ArePositionsBy (Clear market budget) before after =
+    (fills : List Frac128) × (after ≡ before.positions ++ positions_in market (before.book.finished + 1) (batch_in before market).orders fills)
+ArePositionsBy (Settle market count prices) before after = after ≡ outside market before.positions
+ArePositionsBy command before after = ⊥
 
 -- the markets that there are, each with its underlyings and whether it is settled
 abbrev pub listing_of : Markets → List (ℕ × (ℕ × Bool))
@@ -213,13 +212,13 @@ pub record IsByRule (owners : Owned) (session : ℕ) (command : Command) (before
   pub placed : All (λ (order : Order).
       Contains (all_live before) order ⊎ IsPlacedBy owners session command before order) (all_live after)
   -- an order that was live is live, or is of an account of the session, whose line cancels it, or
-  -- the operator cleared or settled
-  pub gone : All (λ (order : Order).
-      Contains (all_live after) order ⊎ (IsCancelledBy owners session command before order ⊎ IsEnding session command))
-      (all_live before)
-  -- markets are listed and settled, and positions come and go, by the operator alone
+  -- the operator cleared or settled its market
+  pub gone : All (λ (order : Order). Contains (all_live after) order
+      ⊎ (IsCancelledBy owners session command before order ⊎ (IsOperator session × IsEndedBy command before order))) (all_live before)
+  -- markets are listed and settled by the operator alone
   pub markets : (listing_of after.book.markets ≡ listing_of before.book.markets) ⊎ IsOperator session
-  pub positions : (after.positions ≡ before.positions) ⊎ IsOperator session
+  -- and positions come and go by its clears and settlements
+  pub positions : (after.positions ≡ before.positions) ⊎ (IsOperator session × ArePositionsBy command before after.positions)
 
 -- each event of a list, in the state that stands before it
 abbrev pub AreByRule : Managed → List Event → Type 0

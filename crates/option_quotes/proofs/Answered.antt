@@ -49,11 +49,6 @@ first_ends batch o limit base best price outcome best_is at_best raised at_worst
 pub unmarked_is_quote : (batch : Batch) (o : Order) (limit : ℕ) (probe : Option ℕ) (outcome : Outcome) → IsQuote batch o limit (Unmarked probe outcome)
 unmarked_is_quote batch o limit probe outcome = record { raises = tt; shown = tt; never = tt }
 
-pub stops_at : (f : ℕ → Outcome) (p q : ℕ) (outcome : Outcome) (rest : List Probe) → p ≡ q → outcome ≡ f p → is_optimal outcome ≡ false → Some (Some p, outcome) ≡ first_unmarked (probe_at f q ∷ rest)
-stops_at f p q outcome rest e is not_optimal =
-    subst (λ r. Some (Some p, outcome) ≡ first_unmarked (probe_at f r ∷ rest)) e
-    (ap (λ (it : Outcome). Some (Some p, it)) is ∙ sym (first_not_marked (probe_at f p) rest (ap is_optimal (sym is) ∙ not_optimal)))
-
 goes_past : (f : ℕ → Outcome) (p q : ℕ) (outcome : Outcome) (rest : List Probe) → p ≡ q → outcome ≡ f p → is_optimal outcome ≡ true → first_unmarked (probe_at f q ∷ rest) ≡ first_unmarked rest
 goes_past f p q outcome rest e is optimal =
     first_marked (probe_at f q) rest (ap (λ r. is_optimal (f r)) (sym e) ∙ ap is_optimal (sym is) ∙ optimal)
@@ -64,16 +59,6 @@ test_at f base p q outcome t e is h = ap (λ r. is_raised base (f r)) (sym e) �
 -- ---- at the worst price
 all_between : (ℕ → Outcome) → Outcome → Side → List Probe
 all_between f base side = probes_between f base most_halvings (best_price side) (worst_price side)
-
-pub worst_raises : (f : ℕ → Outcome) (base : Outcome) (side : Side) (p : ℕ) (outcome : Outcome) → p ≡ worst_price side → outcome ≡ f p → is_optimal outcome ≡ true → is_raised base outcome ≡ true
-    → None ≡ first_unmarked (probes_from_worst f base side)
-unfolding all_between
-worst_raises f base side p outcome e is optimal raised =
-    let w = worst_price side in
-    sym (
-    goes_past f p w outcome (if is_raised base (f w) then [] else all_between f base side) e is optimal
-    ∙ ap (λ (t : Bool). first_unmarked (if t then [] else all_between f base side)) (test_at f base p w outcome true e is raised)
-    )
 
 pub worst_does_not : (f : ℕ → Outcome) (base : Outcome) (side : Side) (b p : ℕ) (outcome : Outcome) (answer : Option Probe) → b ≡ best_price side → p ≡ worst_price side → outcome ≡ f p → is_optimal outcome ≡ true → is_raised base outcome ≡ false
     → ((h : ℕ) → gap b p ≤ 2 ^ h → answer ≡ first_unmarked (probes_between f base h b p))
@@ -88,27 +73,6 @@ worst_does_not f base side b p outcome answer at_best e is optimal not_raised re
     ∙ sym (
     goes_past f p w outcome (if is_raised base (f w) then [] else all_between f base side) e is optimal
     ∙ ap (λ (t : Bool). first_unmarked (if t then [] else all_between f base side)) (test_at f base p w outcome false e is not_raised)
-    )
-
--- ---- at the best price
-pub best_raises : (f : ℕ → Outcome) (base : Outcome) (side : Side) (p : ℕ) (outcome : Outcome) (answer : Option Probe) → p ≡ best_price side → outcome ≡ f p → is_optimal outcome ≡ true → is_raised base outcome ≡ true
-    → answer ≡ first_unmarked (probes_from_worst f base side)
-    → answer ≡ first_unmarked (probes_from_best f base side)
-best_raises f base side p outcome answer e is optimal raised rest =
-    let b = best_price side in
-    rest
-    ∙ sym (
-    goes_past f p b outcome (if is_raised base (f b) then probes_from_worst f base side else []) e is optimal
-    ∙ ap (λ (t : Bool). first_unmarked (if t then probes_from_worst f base side else [])) (test_at f base p b outcome true e is raised)
-    )
-
-pub best_does_not : (f : ℕ → Outcome) (base : Outcome) (side : Side) (p : ℕ) (outcome : Outcome) → p ≡ best_price side → outcome ≡ f p → is_optimal outcome ≡ true → is_raised base outcome ≡ false
-    → None ≡ first_unmarked (probes_from_best f base side)
-best_does_not f base side p outcome e is optimal not_raised =
-    let b = best_price side in
-    sym (
-    goes_past f p b outcome (if is_raised base (f b) then probes_from_worst f base side else []) e is optimal
-    ∙ ap (λ (t : Bool). first_unmarked (if t then probes_from_worst f base side else [])) (test_at f base p b outcome false e is not_raised)
     )
 
 -- ---- at the base

@@ -3,7 +3,7 @@
 use Rattle.std.proofs.Common.{◌≡◌, ℕ, suc, zero, ◌^◌, ◌≤◌, ◌==◌, Bool, true, false, List, [], ◌∷◌, map, arith, Option, Some, None, Result, Ok, Err, IfOk, if◌then◌else◌, refl, ap, sym, subst, ◌∙◌, true≢false, inl, inr}
 use Rattle.std.specs.Option.{option_map_or, option_or}
 use Rattle.std.specs.Prelude.{◌↔◌}
-use Rattle.std.proofs.lemmas.Bool.{cases_Bool, cases_lt}
+use Rattle.std.proofs.lemmas.Bool.{cases_Bool, cases_lt, eq-eqb}
 use Rattle.std.proofs.lemmas.Bool.Decides.{nat_tests}
 use Rattle.form.specs.declared.orders.Side.{Side}
 use Rattle.form.specs.declared.orders.Side.TheVariants.{Buy, Sell}
@@ -129,8 +129,6 @@ after_base None false = refl
 after_base (Some p) t = refl
 
 -- ---- the outcome at the next worse price
-is_worst : (price worst : ℕ) → price ≡ worst → (price == worst) ≡ true
-is_worst price worst e = grind (arith, nat_tests)
 
 not_worst : (side : Side) (price p : ℕ) → IsNextWorse side price p → p ≤ MAX_PRICE → ((price == worst_price side) ≡ false) × (p ≡ next_worse side price)
 not_worst Buy price p next fits = (grind (arith, nat_tests), omega (arith, next))
@@ -138,7 +136,7 @@ not_worst Sell price p next fits = (grind (arith, nat_tests), omega (arith, next
 
 beside_is : (batch : Batch) (o : Order) (limit price : ℕ) (beside : Option Outcome) → IsBeside batch o limit price beside → beside ≡ beside_of batch o limit price
 beside_is batch o limit price None worst =
-    sym (ap (λ (t : Bool). if t then None else Some (probe_outcome batch o limit (next_worse o.side price))) (is_worst price (worst_price o.side) worst))
+    sym (ap (λ (t : Bool). if t then None else Some (probe_outcome batch o limit (next_worse o.side price))) (eq-eqb price (worst_price o.side) worst))
 beside_is batch o limit price (Some outcome) (p, next, fits, shown) =
     let found = not_worst o.side price p next fits in
     ap Some (shown.is ∙ ap (probe_outcome batch o limit) found.1)

@@ -1,7 +1,6 @@
 -- The middles of a gap that is halved until both ends are next to each other.
-use Rattle.std.proofs.Common.{◌≡◌, ℕ, suc, zero, ◌+◌, ◌*◌, ◌^◌, ◌<◌, ◌≤◌, Bool, true, false, nat_le, List, [], ◌∷◌, map, arith, Option, Some, None, if◌then◌else◌, refl, ap, sym, ◌∙◌}
-use Rattle.std.proofs.lemmas.Bool.{le-leb}
-use Rattle.std.proofs.lemmas.Bool.Decides.{nat_tests}
+use Rattle.std.proofs.Common.{◌≡◌, ℕ, suc, zero, ◌+◌, ◌*◌, ◌^◌, ◌<◌, ◌≤◌, Bool, true, false, List, [], ◌∷◌, map, arith, Option, Some, None, if◌then◌else◌, refl, ap, sym, ◌∙◌}
+use Rattle.std.proofs.lemmas.Bool.{le-leb, lt-leb}
 use Rattle.std.proofs.lemmas.Nat.{div-add-mod'}
 use Rattle.std.proofs.Math.Nat.{mod-lt, pow-suc}
 use Rattle.form.specs.declared.orders.Side.{Side}
@@ -15,8 +14,6 @@ use Rattle.option_quotes.specs.Probes.{Probe, is_optimal, is_raised, probe_outco
 use Rattle.option_quotes.specs.Ends.{IsBetter, AreEnds}
 
 -- ---- one halving
-not_near : (n m : ℕ) → m < n → nat_le n m ≡ false
-not_near n m h = grind (arith, nat_tests, h)
 
 pub middles_end : (h : ℕ) (raises : ℕ → Bool) (a b : ℕ) → gap a b ≤ 1 → middles h raises a b ≡ []
 unfolding middles
@@ -29,14 +26,14 @@ pub middles_up : (h : ℕ) (raises : ℕ → Bool) (a b : ℕ) → 1 < gap a b �
 unfolding middles
 middles_up h raises a b far e =
     let m = middle a b in
-    ap (λ (t : Bool). if t then [] else m ∷ (if raises m then middles h raises m b else middles h raises a m)) (not_near (gap a b) 1 far)
+    ap (λ (t : Bool). if t then [] else m ∷ (if raises m then middles h raises m b else middles h raises a m)) (lt-leb (gap a b) 1 far)
     ∙ ap (λ (t : Bool). m ∷ (if t then middles h raises m b else middles h raises a m)) e
 
 pub middles_down : (h : ℕ) (raises : ℕ → Bool) (a b : ℕ) → 1 < gap a b → raises (middle a b) ≡ false → middles (suc h) raises a b ≡ middle a b ∷ middles h raises a (middle a b)
 unfolding middles
 middles_down h raises a b far e =
     let m = middle a b in
-    ap (λ (t : Bool). if t then [] else m ∷ (if raises m then middles h raises m b else middles h raises a m)) (not_near (gap a b) 1 far)
+    ap (λ (t : Bool). if t then [] else m ∷ (if raises m then middles h raises m b else middles h raises a m)) (lt-leb (gap a b) 1 far)
     ∙ ap (λ (t : Bool). m ∷ (if t then middles h raises m b else middles h raises a m)) e
 
 middles_more : (h : ℕ) (raises : ℕ → Bool) (a b : ℕ) → 1 < gap a b → (rest : List ℕ) × (middles (suc h) raises a b ≡ middle a b ∷ rest)

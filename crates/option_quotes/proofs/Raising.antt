@@ -5,7 +5,7 @@ use Rattle.std.specs.Ordering.{int_cmp, is_lt}
 use Rattle.std.proofs.lemmas.Int.{ints, by_lt_z}
 use Rattle.std.proofs.lemmas.Bool.{cases_lt}
 use Rattle.std.proofs.lemmas.List.{map-append}
-use Rattle.std.proofs.lemmas.List.Elements.{All-cons, All-nil, All-tail, All-push, All-weaker, All-map}
+use Rattle.std.proofs.lemmas.List.Elements.{All-cons, All-head, All-map, All-nil, All-push, All-tail, All-weaker}
 use Rattle.arithmetic.proofs.Lists.{rise_push}
 use Rattle.exact_num.specs.Fraction.{Fraction, IsDefined, AtMost}
 use Rattle.frac.specs.Value.{fraction_of}
@@ -34,7 +34,6 @@ use Rattle.clearing.proofs.Yes.{outcomes_are_judged_yes}
 use Rattle.arithmetic.proofs.Comparisons.{int_cmp_less}
 use Rattle.arithmetic.proofs.Integers.{*ℤ_mono, *ℤ_mono_lt}
 use Rattle.arithmetic.proofs.Products.{products}
-use Rattle.arithmetic.proofs.Sums.{All-head}
 use Rattle.option_quotes.specs.declared.quotes.Quoted.TheVariants.{At, Never}
 use Rattle.option_quotes.specs.declared.ends.Ends.{Ends}
 use Rattle.option_quotes.specs.declared.ends.Probed.{Probed}

@@ -1,8 +1,7 @@
 -- What a clear would tell of a further order is of the order behind those of the batch.
 use Rattle.std.proofs.Common.{◌≡◌, ℕ, ◌≤◌, List, [], ◌∷◌, ◌++◌, length, map, zip, Some, arith, refl, ap, sym, subst, ◌∙◌}
 use Rattle.std.specs.Prelude.{slice_get, unwrap_or}
-use Rattle.std.proofs.lemmas.List.Elements.{All-tail}
-use Rattle.arithmetic.proofs.Sums.{All-head}
+use Rattle.std.proofs.lemmas.List.Elements.{All-head, All-tail}
 use Rattle.frac.specs.Value.{fraction_of}
 use Rattle.frac.specs.ValueOf.{zero_128}
 use Rattle.frac.specs.declared.frac128.Frac128.{Frac128}

@@ -1,7 +1,6 @@
 -- From a price that raises to the next along its line.
 use Rattle.std.proofs.Common.{◌≡◌, ℕ, suc, zero, ◌-◌, ◌<◌, ◌≤◌, ◌==◌, min, Bool, true, false, arith, Some, None, if◌then◌else◌, inl, inr, refl, ap, sym, subst, ◌∙◌}
-use Rattle.std.proofs.lemmas.Bool.{cases_lt}
-use Rattle.std.proofs.lemmas.Bool.Decides.{nat_tests}
+use Rattle.std.proofs.lemmas.Bool.{cases_lt, eq-eqb, ne_eqb}
 use Rattle.exact_num.specs.Fraction.{IsNotBelowZero}
 use Rattle.frac.specs.Value.{fraction_of}
 use Rattle.form.specs.declared.orders.Side.{Side}
@@ -21,19 +20,12 @@ use Rattle.option_quotes.specs.Ends.{IsProbed, IsBetter}
 use Rattle.option_quotes.specs.Implied.{above_of, landed_at, next_along, next_better, price_along, prices_for, side_price, walked_all, walked_from, most_walked}
 use Rattle.option_quotes.specs.Probes.{best_price, gap, is_optimal, is_raised, probe_outcome, worst_price}
 use Rattle.option_quotes.specs.Quotes.{IsShown}
-use Rattle.option_quotes.proofs.Answered.{best_fits}
 
 pub then_of : {A : Type 0} (t : Bool) (a b : A) → t ≡ true → (if t then a else b) ≡ a
 then_of t a b h = ap (λ (s : Bool). if s then a else b) h
 
 pub else_of : {A : Type 0} (t : Bool) (a b : A) → t ≡ false → (if t then a else b) ≡ b
 else_of t a b h = ap (λ (s : Bool). if s then a else b) h
-
-is_same : (a b : ℕ) → a ≡ b → (a == b) ≡ true
-is_same a b e = grind (arith, nat_tests, e)
-
-is_other : (a b : ℕ) → (a ≡ b → ⊥) → (a == b) ≡ false
-is_other a b ne = grind (arith, nat_tests, ne)
 
 -- a base that is shown has a surplus that is not below 0
 pub shown_not_below : (batch : Batch) (limit : ℕ) (base : Outcome) → IsShown batch limit base → IsNotBelowZero (fraction_of base.claim.surplus)
@@ -99,16 +91,16 @@ walks_first batch order limit base raising is raised = record { is = is; raised 
 
 module _ (batch : Batch) (order : Order) (limit : ℕ) (base : Outcome) (first left : ℕ) (raising : Probed) (walks : Walks batch order limit base first left raising) where
   pub walks_end : raising.price ≡ worst_price order.side → At raising.price raising.outcome None ≡ walked_all (probe_outcome batch order limit) base order.side first
-  walks_end at = sym (sym walks.rest ∙ walk_ends (probe_outcome batch order limit) base order.side left raising.price (is_same raising.price (worst_price order.side) at) ∙ ap (λ (o : Outcome). At raising.price o None) (sym walks.is.is))
+  walks_end at = sym (sym walks.rest ∙ walk_ends (probe_outcome batch order limit) base order.side left raising.price (eq-eqb raising.price (worst_price order.side) at) ∙ ap (λ (o : Outcome). At raising.price o None) (sym walks.is.is))
 
   pub walks_spent : left ≡ 0 → (raising.price ≡ worst_price order.side → ⊥) → Spent ≡ walked_all (probe_outcome batch order limit) base order.side first
-  walks_spent none off = sym (sym walks.rest ∙ ap (λ (n : ℕ). walked_from (probe_outcome batch order limit) base order.side n raising.price) none ∙ walk_spent (probe_outcome batch order limit) base order.side raising.price (is_other raising.price (worst_price order.side) off))
+  walks_spent none off = sym (sym walks.rest ∙ ap (λ (n : ℕ). walked_from (probe_outcome batch order limit) base order.side n raising.price) none ∙ walk_spent (probe_outcome batch order limit) base order.side raising.price (ne_eqb raising.price (worst_price order.side) off))
 
   module _ (some : 0 < left) (off : raising.price ≡ worst_price order.side → ⊥) (other : Probed) (at : other.price ≡ next_along base order.side raising.price raising.outcome) (is : other.outcome ≡ probe_outcome batch order limit other.price) where
     all : walked_all (probe_outcome batch order limit) base order.side first ≡ next_of (probe_outcome batch order limit) base order.side (left - 1) raising.price other.price
     all =
         let e : left ≡ suc (left - 1) = omega (arith, some) in
-        sym walks.rest ∙ ap (λ (n : ℕ). walked_from (probe_outcome batch order limit) base order.side n raising.price) e ∙ walk_next (probe_outcome batch order limit) base order.side (left - 1) raising.price (is_other raising.price (worst_price order.side) off)
+        sym walks.rest ∙ ap (λ (n : ℕ). walked_from (probe_outcome batch order limit) base order.side n raising.price) e ∙ walk_next (probe_outcome batch order limit) base order.side (left - 1) raising.price (ne_eqb raising.price (worst_price order.side) off)
         ∙ ap (next_of (probe_outcome batch order limit) base order.side (left - 1) raising.price) (ap (next_along base order.side raising.price) (sym walks.is.is) ∙ sym at)
 
     pub walks_unmarked : is_optimal other.outcome ≡ false → Unmarked other.price other.outcome ≡ walked_all (probe_outcome batch order limit) base order.side first
@@ -144,19 +136,19 @@ module _ (batch : Batch) (order : Order) (limit left : ℕ) (ends : Ends)
       → At price ends.raising.outcome (Some ends.other.outcome) ≡ landed_at (probe_outcome batch order limit) order.side left ends.raising.price ends.other.price
   lands_beside price at same =
       sym (
-      then_of (next_better order.side ends.other.price == ends.raising.price) _ _ (is_same (next_better order.side ends.other.price) ends.raising.price (sym at ∙ same))
+      then_of (next_better order.side ends.other.price == ends.raising.price) _ _ (eq-eqb (next_better order.side ends.other.price) ends.raising.price (sym at ∙ same))
       ∙ (λ i. At (sym same i) (sym raises.is i) (Some (sym beside.is i)))
       )
 
   pub lands_spent : (price : ℕ) → price ≡ next_better order.side ends.other.price → left ≡ 0 → (price ≡ ends.raising.price → ⊥) → Spent ≡ landed_at (probe_outcome batch order limit) order.side left ends.raising.price ends.other.price
   lands_spent price at none off =
-      sym (else_of (next_better order.side ends.other.price == ends.raising.price) _ _ (is_other (next_better order.side ends.other.price) ends.raising.price (λ e. off (at ∙ e))) ∙ ap (λ (n : ℕ). above_of (probe_outcome batch order limit) n (next_better order.side ends.other.price) ends.other.price) none)
+      sym (else_of (next_better order.side ends.other.price == ends.raising.price) _ _ (ne_eqb (next_better order.side ends.other.price) ends.raising.price (λ e. off (at ∙ e))) ∙ ap (λ (n : ℕ). above_of (probe_outcome batch order limit) n (next_better order.side ends.other.price) ends.other.price) none)
 
   module _ (some : 0 < left) (above : Probed) (off : above.price ≡ ends.raising.price → ⊥) (at : above.price ≡ next_better order.side ends.other.price) (is : above.outcome ≡ probe_outcome batch order limit above.price) where
     found : landed_at (probe_outcome batch order limit) order.side left ends.raising.price ends.other.price ≡ above_of (probe_outcome batch order limit) (suc (left - 1)) above.price ends.other.price
     found =
         let e : left ≡ suc (left - 1) = omega (arith, some) in
-        else_of (next_better order.side ends.other.price == ends.raising.price) _ _ (is_other (next_better order.side ends.other.price) ends.raising.price (λ e. off (at ∙ e))) ∙ (λ i. above_of (probe_outcome batch order limit) (e i) (sym at i) ends.other.price)
+        else_of (next_better order.side ends.other.price == ends.raising.price) _ _ (ne_eqb (next_better order.side ends.other.price) ends.raising.price (λ e. off (at ∙ e))) ∙ (λ i. above_of (probe_outcome batch order limit) (e i) (sym at i) ends.other.price)
 
     pub lands_unmarked : is_optimal above.outcome ≡ false → Unmarked above.price above.outcome ≡ landed_at (probe_outcome batch order limit) order.side left ends.raising.price ends.other.price
     lands_unmarked not_optimal =
@@ -198,9 +190,6 @@ module _ (batch : Batch) (order : Order) (limit : ℕ) (base : Outcome) (best : 
   best_on optimal raised =
       sym (then_of (is_optimal ((probe_outcome batch order limit) best.price)) _ _ (ap is_optimal (sym is) ∙ optimal) ∙ then_of (is_raised base ((probe_outcome batch order limit) best.price)) _ _ (ap (is_raised base) (sym is) ∙ raised))
       ∙ from
-
-  pub best_probed : is_optimal best.outcome ≡ true → IsProbed batch order limit best
-  best_probed optimal = record { within = subst (λ (p : ℕ). p ≤ MAX_PRICE) (sym at) (best_fits order.side); is = is; optimal = optimal }
 
 pub base_unmarked : (batch : Batch) (buy sell : Order) (limit : ℕ) (base : Outcome) → base ≡ outcome_of batch limit → is_optimal base ≡ false → market.Unmarked base ≡ prices_for batch buy sell limit
 base_unmarked batch buy sell limit base is not_optimal =

@@ -1,20 +1,21 @@
 -- What holds where an order meets no refusal.
-use Rattle.std.proofs.Common.{◌≡◌, ℕ, ◌+◌, ◌<◌, Bool, true, false, not, [], ◌∷◌, Option, None, Some, is_some, nat_eq, length, arith, refl, if◌then◌else◌}
+use Rattle.std.proofs.Common.{◌≡◌, ℕ, ◌+◌, ◌<◌, true, false, not, [], ◌∷◌, Option, None, Some, is_some, nat_eq, length, arith, refl}
 use Rattle.std.specs.Prelude.{nat_le}
 use Rattle.std.specs.Option.{option_map, option_map_or}
 use Rattle.std.proofs.lemmas.Bool.Decides.{nat_tests}
+use Rattle.std.proofs.lemmas.Bool.{leb-false, lt-leb, not-false, not-true}
 use Rattle.form.specs.declared.limits.TheConstants.{MAX_ORDERS, MAX_ORDER}
 use Rattle.form.specs.Bundles.{IsOnCount, is_on_count}
 use Rattle.form.proofs.BundleLegs.{on_count-from}
 use Rattle.limits.specs.declared.TheConstants.{MAX_MARKETS, MAX_BATCHES}
 use Rattle.order_book.specs.declared.new_order.NewOrder.{NewOrder}
-use Rattle.order_book.specs.declared.refusal.BookRefusal.{BookRefusal}
 use Rattle.order_book.specs.declared.refusal.BookRefusal.TheVariants.{NoMarket, MarketExists, Settled, WeightCount, BookFull, TooMany}
 use Rattle.order_book.specs.Markets.{MarketState}
 use Rattle.order_book.specs.Book.{BookState, market_of, info_of, is_trading}
 use Rattle.order_book.specs.declared.market.MarketInfo.{MarketInfo}
 use Rattle.order_book.specs.Refusals.{market_refusals, place_refusals, batch_refusals, live_refusals, close_refusals, has_form_for, is_full}
 use Rattle.lists.specs.Refusals.{first_of}
+use Rattle.lists.proofs.FirstRefusal.{first_unmet}
 
 pub record Accepts (book : BookState) (order : NewOrder) : Type 0 where
   pub market : MarketState
@@ -24,27 +25,8 @@ pub record Accepts (book : BookState) (order : NewOrder) : Type 0 where
   pub room : length market.live < MAX_ORDERS
   pub more : book.accepted < MAX_ORDER
 
--- a test that lets a call pass did not hold
-passes : (test : Bool) (refusal : BookRefusal) (rest : Option BookRefusal) → (if test then Some refusal else rest) ≡ None → (test ≡ false) × (rest ≡ None)
-passes true refusal rest h = cc
-passes false refusal rest h = (refl, h)
-
-holds : (test : Bool) → not test ≡ false → test ≡ true
-holds true h = refl
-holds false h = cc
-
 same_count : (a b : ℕ) → not (nat_eq a b) ≡ false → a ≡ b
 same_count a b h = grind (arith, nat_tests)
-
-less : (a b : ℕ) → nat_le a b ≡ false → b < a
-less a b h = grind (arith, nat_tests)
-
-settled_not : (test : Bool) → not test ≡ true → test ≡ false
-settled_not true h = cc
-settled_not false h = refl
-
-not_many : (a b : ℕ) → b < a → nat_le a b ≡ false
-not_many a b h = grind (arith, nat_tests)
 
 pub accepts : (book : BookState) (order : NewOrder) → first_of (place_refusals book order) ≡ None → Accepts book order
 accepts book order none = by (market_of book order.market) refl none
@@ -57,17 +39,17 @@ accepts book order none = by (market_of book order.market) refl none
         ∷ (nat_le MAX_ORDER book.accepted, TooMany) ∷ []) ≡ None → Accepts book order
     by None e h = cc
     by (Some m) e h =
-        let open_market = passes m.settled Settled _ h in
-        let right_form = passes (not (is_on_count (m.underlyings + 1) order.bundle)) WeightCount _ open_market.1 in
-        let not_full = passes (nat_le MAX_ORDERS (length m.live)) BookFull _ right_form.1 in
-        let not_many = passes (nat_le MAX_ORDER book.accepted) TooMany _ not_full.1 in
+        let open_market = first_unmet m.settled Settled _ h in
+        let right_form = first_unmet (not (is_on_count (m.underlyings + 1) order.bundle)) WeightCount _ open_market.1 in
+        let not_full = first_unmet (nat_le MAX_ORDERS (length m.live)) BookFull _ right_form.1 in
+        let not_many = first_unmet (nat_le MAX_ORDER book.accepted) TooMany _ not_full.1 in
         record {
           market = m;
           found = e;
           unsettled = open_market.0;
-          fits = on_count-from (m.underlyings + 1) order.bundle (holds (is_on_count (m.underlyings + 1) order.bundle) right_form.0);
-          room = less MAX_ORDERS (length m.live) not_full.0;
-          more = less MAX_ORDER book.accepted not_many.0;
+          fits = on_count-from (m.underlyings + 1) order.bundle (not-false (is_on_count (m.underlyings + 1) order.bundle) right_form.0);
+          room = leb-false MAX_ORDERS (length m.live) not_full.0;
+          more = leb-false MAX_ORDER book.accepted not_many.0;
         }
 
 -- a market whose batch may be finished: it is there and not settled, and there is room for one
@@ -82,8 +64,8 @@ finishable book market none = by (market_of book market) refl none
         → (m : MarketState) × (market_of book market ≡ Some m) × (book.finished < MAX_BATCHES) × (m.settled ≡ false)
     by None e h = cc
     by (Some m) e h =
-        let unsettled = passes m.settled Settled _ h in
-        (m, e, less MAX_BATCHES book.finished (passes (nat_le MAX_BATCHES book.finished) TooMany None unsettled.1).0, unsettled.0)
+        let unsettled = first_unmet m.settled Settled _ h in
+        (m, e, leb-false MAX_BATCHES book.finished (first_unmet (nat_le MAX_BATCHES book.finished) TooMany None unsettled.1).0, unsettled.0)
 
 -- a market whose live orders are told: it is there and not settled
 pub listing_live : (book : BookState) (market : ℕ) → first_of (live_refusals book market) ≡ None → (m : MarketState) × (market_of book market ≡ Some m) × (m.settled ≡ false)
@@ -93,7 +75,7 @@ listing_live book market none = by (market_of book market) refl none
         → first_of ((not (is_some (option_map info_of r)), NoMarket) ∷ (option_map_or (λ (found : MarketInfo). found.settled) (option_map info_of r) false, Settled) ∷ []) ≡ None
         → (m : MarketState) × (market_of book market ≡ Some m) × (m.settled ≡ false)
     by None e h = cc
-    by (Some m) e h = (m, e, (passes m.settled Settled None h).0)
+    by (Some m) e h = (m, e, (first_unmet m.settled Settled None h).0)
 
 -- a market may be cleared where it is there, not settled, and there is room for a batch
 pub unrefused : (book : BookState) (market : ℕ) → is_trading book market ≡ true → book.finished < MAX_BATCHES → first_of (batch_refusals book market) ≡ None
@@ -103,7 +85,7 @@ unrefused book market trading more = by (market_of book market) trading
         → first_of ((not (is_some (option_map info_of r)), NoMarket) ∷ (option_map_or (λ (found : MarketInfo). found.settled) (option_map info_of r) false, Settled)
         ∷ (nat_le MAX_BATCHES book.finished, TooMany) ∷ []) ≡ None
     by None h = cc
-    by (Some m) h = rw (settled_not m.settled h, not_many MAX_BATCHES book.finished more) refl
+    by (Some m) h = rw (not-true m.settled h, lt-leb MAX_BATCHES book.finished more) refl
 
 -- a market that may be settled at so many prices: it is there, not settled, and on as many
 -- underlyings
@@ -117,8 +99,8 @@ closable book market prices none = by (market_of book market) refl none
         → (m : MarketState) × (market_of book market ≡ Some m) × (m.settled ≡ false) × (prices ≡ m.underlyings)
     by None e h = cc
     by (Some m) e h =
-        let unsettled = passes m.settled Settled _ h in
-        (m, e, unsettled.0, same_count prices m.underlyings (passes (not (nat_eq prices m.underlyings)) WeightCount None unsettled.1).0)
+        let unsettled = first_unmet m.settled Settled _ h in
+        (m, e, unsettled.0, same_count prices m.underlyings (first_unmet (not (nat_eq prices m.underlyings)) WeightCount None unsettled.1).0)
 
 -- a market that is not settled is there
 pub trading_found : (book : BookState) (market : ℕ) → is_trading book market ≡ true → (m : MarketState) × (market_of book market ≡ Some m)
@@ -134,5 +116,5 @@ listable book market none = by (market_of book market) refl none
   where
     by : (r : Option MarketState) → market_of book market ≡ r → first_of ((is_some (option_map info_of r), MarketExists) ∷ (nat_le MAX_MARKETS (length book.markets), TooMany) ∷ []) ≡ None
         → (market_of book market ≡ None) × (length book.markets < MAX_MARKETS)
-    by None e h = (e, less MAX_MARKETS (length book.markets) (passes (nat_le MAX_MARKETS (length book.markets)) TooMany None h).0)
+    by None e h = (e, leb-false MAX_MARKETS (length book.markets) (first_unmet (nat_le MAX_MARKETS (length book.markets)) TooMany None h).0)
     by (Some m) e h = cc

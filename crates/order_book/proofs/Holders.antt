@@ -6,6 +6,7 @@ use Rattle.std.specs.Option.{option_or}
 use Rattle.std.proofs.lemmas.Bool.Decides.{nat_tests}
 use Rattle.std.proofs.lemmas.List.Folds.{find-append}
 use Rattle.std.proofs.lemmas.Map.Keys.{IsDistinct-head, IsDistinct-tail}
+use Rattle.std.proofs.lemmas.Bool.{eq-eqb}
 use Rattle.form.specs.declared.orders.Order.{Order}
 use Rattle.order_book.specs.Markets.{MarketState, Markets, has_number, with_live, with_live_in, live_orders, without, without_in_each, holder_of}
 use Rattle.order_book.specs.Numbers.{number_count}
@@ -29,9 +30,6 @@ apart_there k market (e ∷ markets) m apart found = by (nat_eq market e.0) refl
     by : (b : Bool) → nat_eq market e.0 ≡ b → cond b (Some e.1) (lookup (nat_eq market) markets) ≡ Some m → (lookup (nat_eq market) markets ≡ Some m → nat_eq market k ≡ false) → nat_eq market k ≡ false
     by true same h later = differ same
     by false same h later = later h
-
-own : (k : ℕ) → nat_eq k k ≡ true
-own k = grind (arith, nat_tests)
 
 module _ (number : ℕ) where
   find_first : (e : ℕ × MarketState) (markets : Markets) → find (has_number number) (live_orders (e ∷ markets)) ≡ option_or (find (has_number number) e.1.live) (find (has_number number) (live_orders markets))
@@ -68,7 +66,7 @@ module _ (number : ℕ) where
       here : e.0 ≡ market → is_some (find (has_number number) e.1.live) ≡ true → Holds number market (e ∷ markets)
       here is there =
           let most = some_counted number e.1.live there in
-          let same : nat_eq market e.0 ≡ true = subst (λ k. nat_eq k e.0 ≡ true) is (own e.0) in
+          let same : nat_eq market e.0 ≡ true = subst (λ k. nat_eq k e.0 ≡ true) is (eq-eqb e.0 e.0 refl) in
           record {
             state = e.1;
             found = ap (λ b. cond b (Some e.1) (lookup (nat_eq market) markets)) same;

@@ -5,6 +5,7 @@ use Rattle.std.specs.List.Sorted.{IsStrictlyIncreasing}
 use Rattle.std.proofs.lemmas.Bool.Decides.{nat_tests}
 use Rattle.std.proofs.lemmas.List.Elements.{All-head, All-tail}
 use Rattle.std.proofs.lemmas.List.Kept.{IsStrictlyIncreasing-filter}
+use Rattle.std.proofs.lemmas.Option.{same_Some}
 use Rattle.form.specs.declared.orders.Order.{Order}
 use Rattle.form.specs.Limits.{IsOrderWithin}
 use Rattle.order_book.specs.Kept.{IsLive}
@@ -62,15 +63,12 @@ none_has number (o ∷ orders) none = ap (λ b. b || list_any (has_number number
 no_order : (found : Order) → None ≡ Some found → IsOrderWithin found
 no_order found same = cc
 
-one_order : (o found : Order) → Some o ≡ Some found → o ≡ found
-one_order o found same = cc
-
 pub found_within : (number : ℕ) (orders : List Order) (found : Order) → All IsOrderWithin orders → find (has_number number) orders ≡ Some found → IsOrderWithin found
 found_within number [] found _ same = no_order found same
 found_within number (o ∷ orders) found all same = by (nat_eq number o.id) same (found_within number orders found (All-tail IsOrderWithin o orders all))
   where
     by : (b : Bool) → cond b (Some o) (find (has_number number) orders) ≡ Some found → (find (has_number number) orders ≡ Some found → IsOrderWithin found) → IsOrderWithin found
-    by true h later = subst IsOrderWithin (one_order o found h) (All-head IsOrderWithin o orders all)
+    by true h later = subst IsOrderWithin (same_Some o found h) (All-head IsOrderWithin o orders all)
     by false h later = later h
 
 -- ---- how many have a number

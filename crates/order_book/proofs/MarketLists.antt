@@ -1,15 +1,12 @@
 -- Lists of markets, of which one is changed.
-use Rattle.std.proofs.Common.{◌≡◌, ℕ, Bool, true, false, cond, [], ◌∷◌, length, Some, nat_eq, refl, ap, sym, subst, ◌∙◌, arith}
+use Rattle.std.proofs.Common.{◌≡◌, ℕ, Bool, true, false, cond, [], ◌∷◌, length, Some, nat_eq, refl, ap, sym, subst, ◌∙◌}
 use Rattle.std.specs.List.{All, AllByRecursion, IsDistinct}
 use Rattle.std.specs.Map.{lookup, set_value, keys_of}
-use Rattle.std.proofs.lemmas.Bool.Decides.{nat_tests}
 use Rattle.std.proofs.lemmas.List.Elements.{All-head, All-tail, All-cons, All-nil}
 use Rattle.std.proofs.lemmas.Map.{keys-set_value, length-set_value}
 use Rattle.std.proofs.lemmas.Map.Keys.{IsDistinct-head, IsDistinct-tail}
+use Rattle.std.proofs.lemmas.Bool.{eqb-true}
 use Rattle.order_book.specs.Markets.{MarketState, Markets, changed_in, live_in}
-
-pub same_number : (a b : ℕ) → nat_eq a b ≡ true → a ≡ b
-same_number a b e = grind (arith, nat_tests)
 
 -- the value of a key that was found is that of its entry
 pub value_found : (e : ℕ × MarketState) (m : MarketState) → Some e.1 ≡ Some m → e.1 ≡ m
@@ -25,7 +22,7 @@ module _ (market : ℕ) where
   at_found P (e ∷ markets) m found all = by (nat_eq market e.0) refl found (λ h. at_found P markets m h (All-tail P e markets all))
     where
       by : (b : Bool) → nat_eq market e.0 ≡ b → cond b (Some e.1) (lookup (nat_eq market) markets) ≡ Some m → (lookup (nat_eq market) markets ≡ Some m → P (market, m)) → P (market, m)
-      by true b h later = subst (λ s. P (market, s)) (value_found e m h) (subst (λ k. P (k, e.1)) (sym (same_number market e.0 b)) (All-head P e markets all))
+      by true b h later = subst (λ s. P (market, s)) (value_found e m h) (subst (λ k. P (k, e.1)) (sym (eqb-true market e.0 b)) (All-head P e markets all))
       by false b h later = later h
 
   module _ (P Q : ℕ × MarketState → Type 0) (others : (e : ℕ × MarketState) → nat_eq market e.0 ≡ false → P e → Q e) where
@@ -44,7 +41,7 @@ module _ (market : ℕ) where
             → (lookup (nat_eq market) markets ≡ Some m → All Q (changed_in change market markets))
             → All Q (cond b ((e.0, change e.1) ∷ markets) (e ∷ changed_in change market markets))
         by true b h later =
-            let k = same_number market e.0 b in
+            let k = eqb-true market e.0 b in
             let v = value_found e m h in
             let here : P (market, m) = subst (λ s. P (market, s)) v (subst (λ n. P (n, e.1)) (sym k) (All-head P e markets all)) in
             let apart = subst (λ n. AllByRecursion (λ y. nat_eq n y ≡ false) (keys_of markets)) (sym k) (IsDistinct-head nat_eq e.0 (keys_of markets) distinct) in

@@ -3,10 +3,10 @@ use Rattle.std.proofs.Common.{◌≡◌, ℕ, ◌+◌, ◌≤◌, Bool, true, fa
 use Rattle.std.specs.List.{find}
 use Rattle.std.specs.Map.{lookup}
 use Rattle.std.specs.Option.{option_map_or}
+use Rattle.std.proofs.lemmas.Bool.{eqb-true}
 use Rattle.order_book.specs.Markets.{MarketState, Markets, has_number, live_in, live_orders, holder_of}
 use Rattle.order_book.specs.Numbers.{number_count}
 use Rattle.order_book.proofs.LiveOrders.{number_count-append, some_counted}
-use Rattle.order_book.proofs.MarketLists.{same_number}
 
 module _ (number market : ℕ) where
   -- whether a market that may be found has the order
@@ -35,7 +35,7 @@ module _ (number market : ℕ) where
       by : (b : Bool) → nat_eq market e.0 ≡ b → (has : Bool) → is_some (find (has_number number) e.1.live) ≡ has → HasOrder (cond b (Some e.1) (lookup (nat_eq market) markets))
           → (is_some (find (has_number number) (live_in market markets)) ≡ true → holder_of number markets ≡ Some market)
           → (if has then Some e.0 else holder_of number markets) ≡ Some market
-      by true same true is h later = ap Some (sym (same_number market e.0 same))
+      by true same true is h later = ap Some (sym (eqb-true market e.0 same))
       by true same false is h later = absurd (cc)
       by false other true is h later = absurd (omega (arith, once, parts, some_counted number e.1.live is, counted_there markets h))
       by false other false is h later = later h

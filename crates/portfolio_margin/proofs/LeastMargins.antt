@@ -1,11 +1,9 @@
 -- The run of a margin ends with the least liability, or with a ray that none covers.
-use Rattle.std.proofs.Common.{◌≡◌, ℕ, ◌+◌, ◌≤◌, List, ◌∷◌, ◌++◌, map, replicate, arith, ℤ, pos, ◌*ℤ◌, ◌≤ℤ◌, ◌<ℤ◌, All, refl, ap, sym, ◌∙◌, subst}
+use Rattle.std.proofs.Common.{◌≡◌, ℕ, ◌+◌, ◌≤◌, List, ◌∷◌, ◌++◌, map, arith, ℤ, pos, ◌*ℤ◌, ◌≤ℤ◌, ◌<ℤ◌, All, refl, ap, sym, ◌∙◌, subst}
 use Rattle.std.proofs.lemmas.Int.{ints}
-use Rattle.std.proofs.lemmas.List.{length-map, length-replicate}
-use Rattle.std.proofs.lemmas.List.Elements.{All-cons, All-append}
-use Rattle.std.proofs.lemmas.List.Sums.{sum_by-cons}
+use Rattle.std.proofs.lemmas.List.{length-map}
+use Rattle.std.proofs.lemmas.List.Elements.{All-append, All-cons, All-head, All-tail}
 use Rattle.arithmetic.proofs.Integers.{*ℤ_cancel_le}
-use Rattle.arithmetic.proofs.Sums.{All-head, All-tail}
 use Rattle.exact_num.specs.Fraction.{Fraction, IsDefined, IsLowest, AtMost}
 use Rattle.exact_num.specs.CommonDenominator.{amount_over, common_denominator}
 use Rattle.exact_num.proofs.Fractions.{amount_is_exact, at_most_from}
@@ -21,6 +19,7 @@ use Rattle.market_laws.proofs.Tree.{closed_trees_hold}
 use Rattle.sign_tree.specs.Read.{placed_of}
 use Rattle.master_program.specs.Master.{zero_prices}
 use Rattle.master_program.specs.Search.{closed, found, search}
+use Rattle.master_program.proofs.Read.{zero_prices_are}
 use Rattle.search_laws.specs.Search.{IsAsked}
 use Rattle.search_laws.proofs.Searching.{search_closes, search_finds, closed_lowest}
 use Rattle.settlement.specs.declared.position.Position.{Position}
@@ -153,12 +152,6 @@ keeps limit budget n ps may = record {
       };
 }
 
-zero_is_state : (n : ℕ) → IsState n (zero_prices n)
-zero_is_state n =
-    let zeros : List ℕ = replicate n 0 in
-    let none : ℕ = 0 in
-    (omega (arith, length-replicate n none), omega (arith, sum_by-cons (λ (k : ℕ). k) 1 zeros))
-
 run_says : (limit budget n : ℕ) (ps : List Position) → MayBeAsked n ps → EndsWith (λ (margin : Margin) (units : ℕ). Says n ps margin) (margin_run (asked_for limit budget n ps))
 unfolding margin_run
 run_says limit budget n ps may =
@@ -168,7 +161,7 @@ run_says limit budget n ps may =
     (λ L is. turns_say a (Wants n ps) (Says n ps) (keeps limit budget n ps may) (budget + 1) L first 0
     (record {
       lowest = first_is_lowest limit ps first L is;
-      state = zero_is_state n;
+      state = zero_prices_are n;
       settlement = omega arith;
       equal = first_equals limit ps first L refl is;
     })

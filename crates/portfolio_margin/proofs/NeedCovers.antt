@@ -3,7 +3,7 @@ use Rattle.std.proofs.Common.{◌≡◌, ℕ, suc, ◌+◌, ◌*◌, ◌/◌, Li
 use Rattle.std.specs.Prelude.{nat_le, int_lt, if◌then◌else◌}
 use Rattle.std.specs.Int.{◌∣◌}
 use Rattle.std.proofs.lemmas.Int.{ints}
-use Rattle.std.proofs.lemmas.List.Elements.{All-cons}
+use Rattle.std.proofs.lemmas.List.Elements.{All-cons, All-head, All-tail}
 use Rattle.std.proofs.lemmas.List.Sums.{sum_by-cons}
 use native.Mathlib.Nat.{mul-div_cancel'}
 use Rattle.arithmetic.specs.Sums.{positive_part, total}
@@ -11,7 +11,6 @@ use Rattle.arithmetic.proofs.Integers.{*ℤ_cancel_le, *ℤ_distr, *ℤ_mono}
 use Rattle.arithmetic.proofs.Parts.{positive_part_above}
 use Rattle.arithmetic.proofs.Products.{products}
 use Rattle.arithmetic.proofs.Signed.{factor_out}
-use Rattle.arithmetic.proofs.Sums.{All-head, All-tail}
 use Rattle.arithmetic.proofs.Tests.{int_lt-yes, int_lt-no}
 use Rattle.exact_num.specs.Fraction.{Fraction, IsDefined}
 use Rattle.exact_num.specs.CommonDenominator.{amount_over, common_denominator}

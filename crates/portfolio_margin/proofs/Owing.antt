@@ -2,10 +2,9 @@
 use Rattle.std.proofs.Common.{◌≡◌, ℕ, ◌*◌, List, [], ◌∷◌, ◌++◌, arith, ℤ, pos, ◌+ℤ◌, ◌*ℤ◌, ◌≤ℤ◌, ◌<ℤ◌, All, refl, ap, sym, ◌∙◌, subst}
 use Rattle.std.specs.Int.{◌∣◌}
 use Rattle.std.proofs.lemmas.Int.{ints}
-use Rattle.std.proofs.lemmas.List.Elements.{All-nil, All-cons}
+use Rattle.std.proofs.lemmas.List.Elements.{All-cons, All-head, All-nil, All-tail}
 use Rattle.arithmetic.proofs.Integers.{*ℤ_mono, *ℤ_mono_lt, *ℤ_cancel_le, *ℤ_cancel_lt, *ℤ_distr, swap_factors}
 use Rattle.arithmetic.proofs.Products.{products}
-use Rattle.arithmetic.proofs.Sums.{All-head, All-tail}
 use Rattle.arithmetic.specs.Sums.{positive_part}
 use Rattle.exact_num.specs.Fraction.{Fraction, IsLowest, IsDefined, IsNotBelowZero}
 use Rattle.exact_num.specs.CommonDenominator.{amount_over, common_denominator}

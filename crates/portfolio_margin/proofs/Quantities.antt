@@ -5,7 +5,7 @@ use Rattle.std.proofs.Math.Nat.{mul-le-mul_left}
 use Rattle.std.proofs.lemmas.Int.{ints}
 use Rattle.std.proofs.lemmas.List.{length-take-le}
 use Rattle.std.proofs.lemmas.List.Sums.{sum_by-cons}
-use Rattle.arithmetic.proofs.Sums.{All-head}
+use Rattle.std.proofs.lemmas.List.Elements.{All-head}
 use Rattle.exact_num.specs.Fraction.{Fraction, AtMost, plain_product, whole}
 use Rattle.form.specs.declared.bundles.Bundle.{Bundle}
 use Rattle.form.specs.declared.legs.Leg.{Leg}

@@ -1,5 +1,5 @@
 -- What is read off the legs of a node with their signs is read off the legs with their roles.
-use Rattle.std.proofs.Common.{◌≡◌, ℕ, zero, suc, ◌<◌, ◌≤◌, List, [], ◌∷◌, length, map, get_or, pos, true, false, arith, ℤ, refl, ap, ◌∙◌}
+use Rattle.std.proofs.Common.{◌≡◌, ℕ, zero, suc, ◌<◌, ◌≤◌, List, [], ◌∷◌, length, map, get_or, pos, true, arith, ℤ, refl, ap, ◌∙◌}
 use Rattle.std.specs.Prelude.{Result, Ok, Err}
 use Rattle.std.proofs.lemmas.List.{length-map}
 use Rattle.exact_num.specs.declared.misfit.Wide.{Wide}
@@ -53,16 +53,6 @@ covering_first all l legs is h = ap covering_of is ∙ go l.role h
     go Free h = cc
     go Above h = cc
     go Below h = cc
-
-pub not_covering : (all : List RoleLeg) (l : RoleLeg) (legs : List RoleLeg) → all ≡ l ∷ legs → is_covering l.role ≡ false → covering_of all ≡ covering_of legs
-not_covering all l legs is h = ap covering_of is ∙ go l.role h
-  where
-    go : (role : Role) → is_covering role ≡ false → if_covering role l.leg (covering_of legs) ≡ covering_of legs
-    go Covering h = cc
-    go Idle h = refl
-    go Free h = refl
-    go Above h = refl
-    go Below h = refl
 
 pub value_at : {A : Type 0} (f : ℕ → A) (m i : ℕ) (d : A) → i < m → get_or (values f m) i d ≡ f i
 value_at f zero i d lt = absurd (omega arith)

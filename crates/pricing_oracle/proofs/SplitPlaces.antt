@@ -11,9 +11,6 @@ use Rattle.master_program.proofs.NodeShape.{length-values}
 pub splits_here : (n i : ℕ) (all : List RoleLeg) (l : RoleLeg) (legs : List RoleLeg) → all ≡ l ∷ legs → can_split n (node_leg l) ≡ true → split_from n i (map node_leg all) ≡ Some i
 splits_here n i all l legs is h = ap (λ ls. split_from n i (map node_leg ls)) is ∙ rw h refl
 
-pub splits_later : (n i : ℕ) (all : List RoleLeg) (l : RoleLeg) (legs : List RoleLeg) → all ≡ l ∷ legs → can_split n (node_leg l) ≡ false → split_from n i (map node_leg all) ≡ split_from n (i + 1) (map node_leg legs)
-splits_later n i all l legs is h = ap (λ ls. split_from n i (map node_leg ls)) is ∙ rw h refl
-
 -- the entry at i, and those after it
 pub entry_first : (n : ℕ) (v : List ℤ) (i : ℕ) (x : ℤ) → i < suc n → x ≡ get_or v i (pos 0) → drop i (entries n v) ≡ x ∷ drop (i + 1) (entries n v)
 entry_first n v i x low is =

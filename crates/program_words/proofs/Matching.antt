@@ -1,13 +1,13 @@
 -- The command matches each list of positional words, word by word.
 use Rattle.std.proofs.Common.{◌≡◌, ℕ, List, [], ◌∷◌, true, false, not, slice_get, nat_eq, ◌==◌, codes, None, ◌&&◌, true≢false, refl, sym, arith}
 use Rattle.std.proofs.lemmas.Bool.Decides.{nat_tests}
+use Rattle.std.proofs.lemmas.Bool.{and_parts}
 use Rattle.clap.specs.Walk.{Rule, Text, first_of}
 use Rattle.clap.specs.Simple.{App, is_simple, matches_of, new_app, new_rule, with_rule}
 use Rattle.clap.specs.Lexer.{strip_byte}
 use Rattle.clap.specs.Takes.{takes}
 use Rattle.clap.proofs.OnLiterals.{clap_on_literals}
 use Rattle.program_words.specs.Positional.{is_plain, are_positional}
-use Rattle.program_words.proofs.Naturals.{both}
 
 abbrev pub word_rule : Rule
 word_rule = record (new_rule (codes "word")) { required = true }
@@ -66,9 +66,9 @@ three (a ∷ at) (b ∷ bt) (c ∷ ct) ae be ce =
 pub words_match : (words : List Text) → are_positional words ≡ true → IsMatched words
 words_match [] e = absurd (true≢false (sym e))
 words_match (a ∷ []) e = one a e
-words_match (a ∷ b ∷ []) e = let h = both (is_plain a) (is_plain b) e in two a b h.0 h.1
+words_match (a ∷ b ∷ []) e = let h = and_parts (is_plain a) (is_plain b) e in two a b h.0 h.1
 words_match (a ∷ b ∷ c ∷ []) e =
-    let h = both (is_plain a) (is_plain b && is_plain c) e in
-    let k = both (is_plain b) (is_plain c) h.1 in
+    let h = and_parts (is_plain a) (is_plain b && is_plain c) e in
+    let k = and_parts (is_plain b) (is_plain c) h.1 in
     three a b c h.0 k.0 k.1
 words_match (a ∷ b ∷ c ∷ d ∷ more) e = absurd (true≢false (sym e))

@@ -1,7 +1,7 @@
 -- Number texts from a number on that is not below 0.
-use Rattle.std.proofs.Common.{◌≡◌, ℕ, pos, neg_ℤ, ◌+◌, ◌-◌, ◌*◌, ◌≤◌, List, [], ◌∷◌, Bool, true, false, not, ◌&&◌, ◌==◌, nat_le, nat_abs, fold, Option, Some, None, if◌then◌else◌, refl, sym, arith, true≢false, inl, inr, ◌||◌}
+use Rattle.std.proofs.Common.{◌≡◌, ℕ, pos, neg_ℤ, ◌+◌, ◌-◌, ◌*◌, ◌≤◌, List, [], ◌∷◌, Bool, true, false, not, ◌&&◌, ◌==◌, nat_le, nat_abs, fold, Option, Some, None, if◌then◌else◌, refl, arith, inl, inr, ◌||◌}
 use Rattle.std.specs.Prelude.{int_le}
-use Rattle.std.proofs.lemmas.Bool.{cases_Bool}
+use Rattle.std.proofs.lemmas.Bool.{and_parts, cases_Bool}
 use Rattle.std.proofs.lemmas.Int.{ints}
 use Rattle.std.proofs.lemmas.Bool.Decides.{nat_tests}
 use Rattle.std.specs.Char.{is_ascii_digit}
@@ -23,19 +23,15 @@ grows : (ds : List ℕ) (n : ℕ) → n ≤ fold (λ n d. 10 * n + (d - 48)) n d
 grows [] n = omega arith
 grows (d ∷ ds) n = let more = grows ds (10 * n + (d - 48)) in omega arith
 
-pub both : (x y : Bool) → (x && y) ≡ true → (x ≡ true) × (y ≡ true)
-both true y e = (refl, e)
-both false y e = absurd (true≢false (sym e))
-
 first_digit : (d : ℕ) → not (d == 48) ≡ true → is_ascii_digit d ≡ true → 49 ≤ d
 first_digit d e digit = grind (arith, nat_tests)
 
 -- digits behind a minus say a number above 0
 above_zero : (d : ℕ) (ds : List ℕ) → (not (d == 48) && is_natural (d ∷ ds)) ≡ true → 1 ≤ natural_value (d ∷ ds)
 above_zero d ds e =
-    let h = both (not (d == 48)) (is_natural (d ∷ ds)) e in
-    let k = both (list_all is_ascii_digit (d ∷ ds)) (not (d == 48) || is_empty ds) h.1 in
-    let j = both (is_ascii_digit d) (list_all is_ascii_digit ds) k.0 in
+    let h = and_parts (not (d == 48)) (is_natural (d ∷ ds)) e in
+    let k = and_parts (list_all is_ascii_digit (d ∷ ds)) (not (d == 48) || is_empty ds) h.1 in
+    let j = and_parts (is_ascii_digit d) (list_all is_ascii_digit ds) k.0 in
     let first = first_digit d h.0 j.0 in
     let rest = grows ds (0 + (d - 48)) in
     omega arith

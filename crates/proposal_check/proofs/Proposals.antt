@@ -1,8 +1,7 @@
 -- What the judgement of a proposal shows: each condition in its order, and then the bound.
 use Rattle.std.proofs.Common.{◌≡◌, ◌≢◌, ◌+◌, Bool, true, false, ◌&&◌, List, [], ◌∷◌, map, All, Result, Ok, Err, IfOk, IfErr, refl, ap, sym, subst, ◌∙◌}
 use Rattle.std.proofs.lemmas.List.Elements.{All-nil, All-cons}
-use Rattle.std.proofs.lemmas.Bool.{and_parts}
-use Rattle.arithmetic.proofs.Tests.{and_true}
+use Rattle.std.proofs.lemmas.Bool.{and_from, and_parts}
 use Rattle.exact_num.specs.declared.misfit.Wide.{Wide as Misfit}
 use Rattle.exact_num.specs.Fraction.{Fraction, IsLowest}
 use Rattle.exact_num.specs.Fits.{after}
@@ -309,7 +308,7 @@ shapes_join : (filled states cover others : Bool) → ((filled && states) && cov
 shapes_join filled states cover others h k =
     let outer = and_parts (filled && states) cover h in
     let inner = and_parts filled states outer.0 in
-    and_true (filled && others) cover (and_true filled others inner.0 k) outer.1
+    and_from (filled && others) cover (and_from filled others inner.0 k) outer.1
 
 required : (k : FailedCondition) (r : Result Bool Misfit) (next : Result Fraction BoundFailure) (B : Fraction) → r ≡ Ok true → next ≡ Ok B → require k r next ≡ Ok B
 required k r next B holds is = ap (λ (t : Result Bool Misfit). require k t next) holds ∙ is
@@ -351,8 +350,8 @@ matches_join batch outcome other B none h k =
     let c = after_checked no.Cover covered marked b.1 in
     let proved = passed batch other B k in
     let filled = (and_parts (has_fills batch outcome.fills) (mark_fits batch.underlyings outcome.mark) (is_true (has_outcome_shape batch outcome) true a.0)).0 in
-    let on = and_true (has_fills batch outcome.fills) (states_have (batch.underlyings + 1) other.measure.points) filled (states_of batch other (is_true (has_shape batch other) true proved.shape)) in
-    let shape : has_shape batch joined ≡ true = and_true (is_on_underlyings batch joined) true on refl in
+    let on = and_from (has_fills batch outcome.fills) (states_have (batch.underlyings + 1) other.measure.points) filled (states_of batch other (is_true (has_shape batch other) true proved.shape)) in
+    let shape : has_shape batch joined ≡ true = and_from (is_on_underlyings batch joined) true on refl in
     let balanced = ap (and_then (claim_holds limit batch.orders outcome.fills outcome.claim)) (sym (unmarked batch outcome.fills outcome.claim.liability outcome.mark none)) ∙ c.0 in
     let cover = proposal_covered limit batch joined in
     let last = measured_bound limit batch.orders other.measure in

@@ -1,7 +1,6 @@
 -- What the test of a proposal's shape says.
 use Rattle.std.proofs.Common.{◌≡◌, ◌+◌, true, false, ◌==◌, length, get_or, All, refl, eqb-true}
-use Rattle.std.proofs.lemmas.Bool.{and_parts}
-use Rattle.arithmetic.proofs.Tests.{and_true}
+use Rattle.std.proofs.lemmas.Bool.{and_from, and_parts, eq-eqb}
 use Rattle.form.specs.declared.orders.Order.{Order}
 use Rattle.form.specs.declared.orders.Batch.{Batch}
 use Rattle.form.specs.Payoff.{IsOnCount}
@@ -9,7 +8,7 @@ use Rattle.form.proofs.BundleLegs.{is_bundle_of}
 use Rattle.sign_tree.specs.Legs.{leg_count}
 use Rattle.cert_check.specs.Points.{IsOnStates}
 use Rattle.cert_check.specs.Shape.{cover_fits, forms_have, has_fills, states_have}
-use Rattle.cert_check.proofs.Shapes.{cover_is_on, cover_passes, equal_is_true, forms_all, forms_pass, states_all, states_are, states_pass}
+use Rattle.cert_check.proofs.Shapes.{cover_is_on, cover_passes, forms_all, forms_pass, states_all, states_are, states_pass}
 use Rattle.proposal_check.specs.declared.covers.Proposal.{Proposal}
 use Rattle.proposal_check.specs.declared.covers.ProposalCover.{ProposalCover}
 use Rattle.proposal_check.specs.declared.covers.ProposalCover.TheVariants.{Checked, Match, Cells}
@@ -27,7 +26,7 @@ cover_is_of batch (Cells nodes) h = h
 
 cover_is_fit : (batch : Batch) (cover : ProposalCover) → IsCoverOf batch cover → fits_batch batch cover ≡ true
 cover_is_fit batch (Checked cover) is =
-    and_true (cover_fits batch.underlyings cover) (is_walkable (leg_count batch.orders) cover) (cover_passes batch.underlyings cover is.0) is.1
+    and_from (cover_fits batch.underlyings cover) (is_walkable (leg_count batch.orders) cover) (cover_passes batch.underlyings cover is.0) is.1
 cover_is_fit batch Match is = refl
 cover_is_fit batch (Cells nodes) is = is
 
@@ -71,9 +70,9 @@ shape_met batch proposal h =
 pub shape_unmet : (batch : Batch) (proposal : Proposal) → has_shape batch proposal ≡ false → ¬ (IsOfBatch batch proposal)
 shape_unmet batch proposal h is =
     let n = batch.underlyings in
-    let many = equal_is_true (length proposal.fills) (length batch.orders) is.fills in
+    let many = eq-eqb (length proposal.fills) (length batch.orders) is.fills in
     let forms = forms_pass n batch.orders is.orders in
-    let filled = and_true (length proposal.fills == length batch.orders) (forms_have (n + 1) batch.orders) many forms in
-    let on = and_true (has_fills batch proposal.fills) (states_have (n + 1) proposal.measure.points) filled (states_pass n proposal.measure.points is.states) in
-    let passes = and_true (is_on_underlyings batch proposal) (fits_batch batch proposal.cover) on (cover_is_fit batch proposal.cover is.cover) in
+    let filled = and_from (length proposal.fills == length batch.orders) (forms_have (n + 1) batch.orders) many forms in
+    let on = and_from (has_fills batch proposal.fills) (states_have (n + 1) proposal.measure.points) filled (states_pass n proposal.measure.points is.states) in
+    let passes = and_from (is_on_underlyings batch proposal) (fits_batch batch proposal.cover) on (cover_is_fit batch proposal.cover is.cover) in
     cc (h, passes)

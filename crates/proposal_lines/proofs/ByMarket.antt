@@ -4,17 +4,13 @@ use Rattle.std.specs.List.{AllByRecursion, IsDistinct}
 use Rattle.std.specs.Map.{keys_of, lookup, remove_entry}
 use Rattle.std.proofs.lemmas.Bool.Decides.{nat_tests}
 use Rattle.std.proofs.lemmas.Map.Keys.{IsDistinct-head, IsDistinct-tail}
+use Rattle.std.proofs.lemmas.Bool.{eq-eqb, eqb-true}
+use Rattle.arithmetic.proofs.Tests.{nat_eq-turned}
 use Rattle.indexmap.specs.IndexMap.{insert_entry}
-use Rattle.order_book.proofs.MarketLists.{same_number}
 use Rattle.proposals.specs.declared.best.Best.{Best}
 use Rattle.proposal_lines.specs.KeptByMarket.{KeptProposals, kept_in, with_kept, without_kept}
 
 -- ---- tests
-same_test : (n : ℕ) → nat_eq n n ≡ true
-same_test n = grind (arith, nat_tests)
-
-pub other_way : (a b : ℕ) → nat_eq a b ≡ false → nat_eq b a ≡ false
-other_way a b apart = grind (arith, nat_tests)
 
 -- two markets are not one
 not_both : (a b n : ℕ) → nat_eq a b ≡ false → nat_eq a n ≡ true → nat_eq b n ≡ true → ⊥
@@ -30,7 +26,7 @@ unless_own own e others = cond (not own) (e ∷ others) others
 -- ---- what is for the market itself is taken out and in
 module _ (market : ℕ) where
   own_found : (best : Option Best) (kept : KeptProposals) → lookup (nat_eq market) (insert_entry nat_eq kept market best) ≡ Some best
-  own_found best [] = ap (λ b. cond b (Some best) None) (same_test market)
+  own_found best [] = ap (λ b. cond b (Some best) None) (eq-eqb market market refl)
   own_found best (e ∷ kept) = by (nat_eq market e.0) refl (own_found best kept)
     where
       by : (b : Bool) → nat_eq market e.0 ≡ b → lookup (nat_eq market) (insert_entry nat_eq kept market best) ≡ Some best
@@ -64,7 +60,7 @@ module _ (market : ℕ) where
       by false own later = ap (λ b. unless_own b e (without_kept market (without_kept market kept))) own ∙ ap (λ l. e ∷ l) later
 
   own_inserted : (best : Option Best) (kept : KeptProposals) → without_kept market (insert_entry nat_eq kept market best) ≡ without_kept market kept
-  own_inserted best [] = ap (λ b. unless_own b (market, best) []) (same_test market)
+  own_inserted best [] = ap (λ b. unless_own b (market, best) []) (eq-eqb market market refl)
   own_inserted best (e ∷ kept) = by (nat_eq market e.0) refl (own_inserted best kept)
     where
       by : (b : Bool) → nat_eq market e.0 ≡ b → without_kept market (insert_entry nat_eq kept market best) ≡ without_kept market kept
@@ -90,7 +86,7 @@ module _ (market : ℕ) where
       by : (b : Bool) → nat_eq market e.0 ≡ b → remove_entry (nat_eq market) kept ≡ without_kept market kept
           → cond b kept (e ∷ remove_entry (nat_eq market) kept) ≡ unless_own b e (without_kept market kept)
       by true own later =
-          let here = same_number market e.0 own in
+          let here = eqb-true market e.0 own in
           let apart : AllByRecursion (λ y. nat_eq e.0 y ≡ false) (keys_of kept) = IsDistinct-head nat_eq e.0 (keys_of kept) distinct in
           sym (none_own kept (subst (λ n. AllByRecursion (λ y. nat_eq n y ≡ false) (keys_of kept)) (sym here) apart))
       by false own later = ap (λ l. e ∷ l) later
@@ -128,7 +124,7 @@ module _ (market q : ℕ) (apart : nat_eq q market ≡ false) where
           ∙ sym (ap (λ c. unless_own c e (without_kept q (without_kept market kept))) at)
 
   inserted_in_others : (best : Option Best) (kept : KeptProposals) → without_kept market (insert_entry nat_eq kept q best) ≡ insert_entry nat_eq (without_kept market kept) q best
-  inserted_in_others best [] = ap (λ b. unless_own b (q, best) []) (other_way q market apart)
+  inserted_in_others best [] = ap (λ b. unless_own b (q, best) []) (nat_eq-turned q market false apart)
   inserted_in_others best (e ∷ kept) = by (nat_eq market e.0) refl (nat_eq q e.0) refl (inserted_in_others best kept)
     where
       By : Bool → KeptProposals

@@ -1,10 +1,11 @@
 -- What takes the place of the reference run's outcome is proved, and no proposal lowers what is
 -- cleared.
-use Rattle.std.proofs.Common.{◌≡◌, ℕ, List, [], map, Bool, true, false, if◌then◌else◌, Option, Some, None, option_and_then, Ok, refl, sym, ap, ◌∙◌, subst, arith, ℤ, ◌≤ℤ◌, int_le, pos, ◌*ℤ◌}
+use Rattle.std.proofs.Common.{◌≡◌, ℕ, List, [], map, Bool, true, false, if◌then◌else◌, Option, Some, None, option_and_then, Ok, refl, sym, ap, ◌∙◌, subst, arith, pos, ◌*ℤ◌}
 use Rattle.std.specs.Prelude.{IfSome}
 use Rattle.std.specs.Option.{option_map, option_map_or}
 use Rattle.std.proofs.lemmas.Int.{ints}
 use Rattle.std.proofs.lemmas.Option.{same_Some}
+use Rattle.arithmetic.proofs.Tests.{int_le-no, int_le-yes}
 use Rattle.proposal_check.specs.ProposalLaws.{Proves}
 use Rattle.proposal_check.specs.Proposals.{proposal_bound}
 use Rattle.cert_check.specs.Conditions.{is_optimal_mark}
@@ -48,16 +49,10 @@ use Rattle.proposal_lines.proofs.Kept.{best_proved}
 
 -- ---- tests
 pub is_below : (x y : Fraction) → is_at_most x y ≡ false → AtMost y x
-is_below x y above = other (x.numerator *ℤ pos y.denominator) (y.numerator *ℤ pos x.denominator) above
-  where
-    other : (a b : ℤ) → int_le a b ≡ false → b ≤ℤ a
-    other a b above = grind (arith, ints)
+is_below x y above = int_le-no (x.numerator *ℤ pos y.denominator) (y.numerator *ℤ pos x.denominator) above
 
 pub is_most : (x y : Fraction) → is_at_most x y ≡ true → AtMost x y
-is_most x y most = so (x.numerator *ℤ pos y.denominator) (y.numerator *ℤ pos x.denominator) most
-  where
-    so : (a b : ℤ) → int_le a b ≡ true → a ≤ℤ b
-    so a b most = grind (arith, ints)
+is_most x y most = int_le-yes (x.numerator *ℤ pos y.denominator) (y.numerator *ℤ pos x.denominator) most
 
 -- ---- what takes the place of an outcome
 -- where the run stopped and something is kept

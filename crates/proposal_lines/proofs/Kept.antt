@@ -6,6 +6,7 @@ use Rattle.std.specs.Map.{lookup}
 use Rattle.std.specs.Option.{option_map}
 use Rattle.std.proofs.lemmas.List.Elements.{All-filter, All-nil, All-cons, All-head, All-tail, All-weaker}
 use Rattle.std.proofs.lemmas.Slice.Eq.{bytes_eq-Decides}
+use Rattle.std.proofs.lemmas.Bool.{eqb-true}
 use Rattle.indexmap.specs.IndexMap.{insert_entry}
 use Rattle.proposal_check.specs.Proposals.{proposal_bound}
 use Rattle.proposal_check.specs.declared.covers.Proposal.{Proposal}
@@ -19,7 +20,7 @@ use Rattle.order_book.specs.Kept.{IsBookKept, IsLive}
 use Rattle.order_book.specs.Markets.{MarketState, live_orders}
 use Rattle.order_book.specs.Numbers.{numbers_of}
 use Rattle.order_book.proofs.BookKept.{market_kept}
-use Rattle.order_book.proofs.MarketLists.{live_found, same_number}
+use Rattle.order_book.proofs.MarketLists.{live_found}
 use Rattle.exchange_core.proofs.LiveAccounts.{All-live_in}
 use Rattle.proposals.specs.Best.{after_offer, are_same_orders, best_for, best_of, joined}
 use Rattle.proposals.specs.Laws.{IsProvedBest}
@@ -56,7 +57,7 @@ module _ (P : ℕ → Best → Type 0) (market : ℕ) where
     where
       by : (b : Bool) → nat_eq market e.0 ≡ b → IfSome (kept_in market kept) (P market)
           → IfSome (option_and_then (λ best. best) (cond b (Some e.1) (lookup (nat_eq market) kept))) (P market)
-      by true is later = subst (λ n. IfSome e.1 (P n)) (sym (same_number market e.0 is)) (All-head (Has P) e kept are)
+      by true is later = subst (λ n. IfSome e.1 (P n)) (sym (eqb-true market e.0 is)) (All-head (Has P) e kept are)
       by false is later = later
 
   pub without_has : (kept : KeptProposals) → All (Has P) kept → All (Has P) (without_kept market kept)
@@ -68,7 +69,7 @@ module _ (P : ℕ → Best → Type 0) (market : ℕ) where
     where
       by : (b : Bool) → nat_eq market e.0 ≡ b → All (Has P) (insert_entry nat_eq kept market (Some best))
           → All (Has P) (if b then (e.0, Some best) ∷ kept else e ∷ insert_entry nat_eq kept market (Some best))
-      by true at later = All-cons (Has P) (e.0, Some best) kept (subst (λ n. P n best) (same_number market e.0 at) is) (All-tail (Has P) e kept are)
+      by true at later = All-cons (Has P) (e.0, Some best) kept (subst (λ n. P n best) (eqb-true market e.0 at) is) (All-tail (Has P) e kept are)
       by false at later = All-cons (Has P) e (insert_entry nat_eq kept market (Some best)) (All-head (Has P) e kept are) later
 
   pub with_has : (best : Best) → P market best → (kept : KeptProposals) → All (Has P) kept → All (Has P) (with_kept market best kept)

@@ -1,6 +1,8 @@
 -- A proposal lowers the surplus of no clear, for as long as the orders of its market stay.
 use Rattle.std.proofs.Common.{◌≡◌, ℕ, List, [], ◌∷◌, Bool, true, false, nat_eq, if◌then◌else◌, Option, Some, None, Result, Ok, Err, refl, sym, ap, ◌∙◌, subst}
 use Rattle.std.specs.Option.{option_map_or}
+use Rattle.std.proofs.lemmas.Bool.{eqb-true}
+use Rattle.arithmetic.proofs.Tests.{nat_eq-turned}
 use Rattle.auction_phases.specs.Phases.{ended_in}
 use Rattle.proposal_lines.specs.AllKinds.{said_reply}
 use Rattle.proposal_check.specs.Proposals.{proposal_bound}
@@ -26,7 +28,6 @@ use Rattle.frac.specs.ValueOf.{value_from}
 use Rattle.frac.specs.declared.frac128.Frac128.{Frac128}
 use Rattle.order_book.specs.Numbers.{numbers_of}
 use Rattle.order_book.specs.Refusals.{live_refusals}
-use Rattle.order_book.proofs.MarketLists.{same_number}
 use Rattle.proposal_text.specs.declared.replies.FailureKind.TheVariants as failed
 use Rattle.proposal_text.specs.declared.replies.BoundedOutcome.{BoundedOutcome}
 use Rattle.proposals.specs.Best.{after_offer, are_same_orders, best_for, surplus_of}
@@ -46,7 +47,7 @@ use Rattle.proposal_text.specs.declared.replies.ServedReply.{ServedReply}
 use Rattle.proposal_lines.proofs.Kept.{same_numbers}
 use Rattle.proposal_lines.proofs.SaidKinds.{by_kind}
 use Rattle.proposal_lines.proofs.Lowering.{IsNoLess, after_counts, after_no_less, after_no_worse, as_much, charged_no_less}
-use Rattle.proposal_lines.proofs.ByMarket.{none_left, other_way, others_kept, others_removed, own_counts, own_kept, removed_in_others, with_in_others}
+use Rattle.proposal_lines.proofs.ByMarket.{none_left, others_kept, others_removed, own_counts, own_kept, removed_in_others, with_in_others}
 use Rattle.proposal_lines.proofs.Clearing.{bounded_where}
 
 abbrev pub live_in : ExchangeState → ℕ → List ℕ
@@ -73,7 +74,7 @@ module _ (market : ℕ) (exchange : ExchangeState) (one other : KeptProposals) (
   counts_no_less = by (nat_eq q market) refl
     where
       by : (b : Bool) → nat_eq q market ≡ b → IsNoLess (best_in q (live_in exchange q) one) (best_in q (live_in exchange q) other)
-      by true is = subst (λ q. IsNoLess (best_in q (live_in exchange q) one) (best_in q (live_in exchange q) other)) (sym (same_number q market is)) no_worse.counted
+      by true is = subst (λ q. IsNoLess (best_in q (live_in exchange q) one) (best_in q (live_in exchange q) other)) (sym (eqb-true q market is)) no_worse.counted
       by false is =
           subst (λ k. IsNoLess (best_in q (live_in exchange q) one) (best_for k (live_in exchange q))) (sym (kept_alike market one other no_worse.others q is)) (as_much (best_in q (live_in exchange q) one))
 
@@ -146,13 +147,13 @@ module _ (exchange : ExchangeState) (proposed : Proposed) (bound : Frac128) wher
 
       by : (b : Bool) → nat_eq market proposed.market ≡ b → IsNoWorseFor market exchange (taken_in one) (taken_in other)
       by true at =
-          let e = same_number market proposed.market at in
+          let e = eqb-true market proposed.market at in
           record {
             others = subst (λ q. without_kept q (taken_in other) ≡ without_kept q (taken_in one)) (sym e) (others_here e);
             counted = subst Counts (sym e) (for_market e);
           }
       by false at = record {
-        others = others_apart (other_way market proposed.market at);
+        others = others_apart (nat_eq-turned market proposed.market false at);
         counted =
             subst (λ k. IsNoLess (best_for k (live_in exchange market)) (best_in market (live_in exchange market) (taken_in other))) (sym (others_stay market at one))
             (subst (λ k. IsNoLess (best_in market (live_in exchange market) one) (best_for k (live_in exchange market))) (sym (others_stay market at other)) no_worse.counted);
@@ -263,7 +264,7 @@ module _ (market : ℕ) (exchange : ExchangeState) (one other : KeptProposals) (
   other_ended after stay ended apart =
       left_both after stay (without_kept ended)
       (removed_in_others market ended apart other ∙ ap (without_kept ended) no_worse.others ∙ sym (removed_in_others market ended apart one))
-      (others_removed ended market (other_way ended market apart))
+      (others_removed ended market (nat_eq-turned ended market false apart))
 
   ended_both : (after : ExchangeState) → OrdersStay after → (ended : Option ℕ) → IsNoWorse market (state_of after (after_end one ended)) (state_of after (after_end other ended))
   ended_both after stay None = left_both after stay (λ kept. kept) no_worse.others (λ kept. refl)
@@ -271,7 +272,7 @@ module _ (market : ℕ) (exchange : ExchangeState) (one other : KeptProposals) (
     where
       by : (b : Bool) → nat_eq ended market ≡ b → IsNoWorse market (state_of after (without_kept ended one)) (state_of after (without_kept ended other))
       by true own =
-          subst (λ (q : ℕ). IsNoWorse market (state_of after (without_kept q one)) (state_of after (without_kept q other))) (sym (same_number ended market own)) (own_ended after)
+          subst (λ (q : ℕ). IsNoWorse market (state_of after (without_kept q one)) (state_of after (without_kept q other))) (sym (eqb-true ended market own)) (own_ended after)
       by false apart = other_ended after stay ended apart
 
   module _ (line : List ℕ) where
@@ -331,7 +332,7 @@ module _ (market : ℕ) (exchange : ExchangeState) (one other : KeptProposals) (
       where
         by : (cleared budget : ℕ) (b : Bool) → nat_eq cleared market ≡ b → ClearsNot (Ok (asks.Command (Clear cleared budget)))
             → Both (λ state. clear_reply state cleared budget)
-        by cleared budget true own none = absurd (none budget (ap (λ (q : ℕ). Ok (asks.Command (Clear q budget))) (same_number cleared market own)))
+        by cleared budget true own none = absurd (none budget (ap (λ (q : ℕ). Ok (asks.Command (Clear q budget))) (eqb-true cleared market own)))
         by cleared budget false apart none = clear_both cleared budget apart
 
     pub line_both : IsNoClearOf market (body_of_line line) → Both (λ state. proposing_reply state line (said_in SERVED line))

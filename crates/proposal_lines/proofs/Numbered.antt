@@ -1,14 +1,11 @@
 -- Orders that have the same numbers, none of them twice, are the same.
-use Rattle.std.proofs.Common.{◌≡◌, ℕ, ◌+◌, ◌≤◌, List, [], ◌∷◌, get_or, Bool, true, false, nat_eq, if◌then◌else◌, refl, sym, ap, ◌∙◌, subst, arith, true≢false}
+use Rattle.std.proofs.Common.{◌≡◌, ◌+◌, ◌≤◌, List, [], ◌∷◌, get_or, Bool, true, false, nat_eq, if◌then◌else◌, refl, sym, ap, ◌∙◌, subst, arith, true≢false}
 use Rattle.std.specs.List.{All}
-use Rattle.std.proofs.lemmas.Bool.Decides.{nat_tests}
 use Rattle.std.proofs.lemmas.List.Elements.{All-nil, All-cons, All-head, All-tail, All-weaker, All-get_or, All-from_get_or}
+use Rattle.std.proofs.lemmas.Bool.{eq-eqb}
 use Rattle.form.specs.declared.orders.Order.{Order}
 use Rattle.order_book.specs.Numbers.{AreNumberedApart, number_count, numbers_of}
 use Rattle.proposal_lines.specs.Proved.{AgreesWith}
-
-same : (a b : ℕ) → a ≡ b → nat_eq a b ≡ true
-same a b e = grind (arith, nat_tests)
 
 abbrev IsOther : Order → Order → Type 0
 IsOther order own = order.id ≡ own.id → ⊥
@@ -24,13 +21,13 @@ none_alike order (o ∷ orders) none = by (nat_eq order.id o.id) refl none (none
     by : (b : Bool) → nat_eq order.id o.id ≡ b → (if b then 1 else 0) + number_count order.id orders ≡ 0 → (number_count order.id orders ≡ 0 → All (IsOther order) orders)
         → All (IsOther order) (o ∷ orders)
     by true is h later = absurd (omega (arith, h))
-    by false is h later = All-cons (IsOther order) o orders (λ e. true≢false (sym (same order.id o.id e) ∙ is)) (later (omega (arith, h)))
+    by false is h later = All-cons (IsOther order) o orders (λ e. true≢false (sym (eq-eqb order.id o.id e) ∙ is)) (later (omega (arith, h)))
 
 pub agree_all : (orders : List Order) → AreNumberedApart orders → All (AgreesWith orders) orders
 agree_all [] apart = All-nil (AgreesWith [])
 agree_all (x ∷ xs) apart =
     let once : (if true then 1 else 0) + number_count x.id xs ≤ 1 =
-    subst (λ b. (if b then 1 else 0) + number_count x.id xs ≤ 1) (same x.id x.id refl) (apart x.id) in
+    subst (λ b. (if b then 1 else 0) + number_count x.id xs ≤ 1) (eq-eqb x.id x.id refl) (apart x.id) in
     let none = none_alike x xs (omega (arith, once)) in
     let later = agree_all xs (λ number. omega (arith, apart number)) in
     All-cons (AgreesWith (x ∷ xs)) x xs (All-cons (IsAlike x) x xs (λ e. refl) (All-weaker (IsOther x) (IsAlike x) (λ own other e. absurd (other e)) xs none))

@@ -2,6 +2,7 @@
 use Rattle.std.proofs.Common.{◌≡◌, ℕ, List, [], Bool, true, false, nat_eq, Option, Some, None, refl, sym, ap, ◌∙◌, subst, true≢false}
 use Rattle.std.specs.Prelude.{⊤}
 use Rattle.std.specs.Option.{option_map, option_map_or}
+use Rattle.std.proofs.lemmas.Bool.{eqb-true}
 use Rattle.command_text.specs.declared.command.Body.{Body}
 use Rattle.command_text.specs.declared.command.Body.TheVariants.{Command as Says, Syntax, Range}
 use Rattle.command_text.specs.declared.command.Command.{Command}
@@ -16,7 +17,6 @@ use Rattle.exchange_lines.proofs.Listings.{listed_in, listed-changed, listed-clo
 use Rattle.frac.specs.declared.frac128.Frac128.{Frac128}
 use Rattle.order_book.specs.Markets.{Markets, changed_in, settled_market, with_live}
 use Rattle.order_book.proofs.Accepting.{closable, finishable}
-use Rattle.order_book.proofs.MarketLists.{same_number}
 use Rattle.reply_print.specs.declared.replies.Reply.{Reply}
 use Rattle.reply_print.specs.declared.replies.Reply.TheVariants.{Opened, Deposited, Withdrawn, Listed, Placed, Cancelled, Cleared, Settled, Balance, Refused}
 use Rattle.proposal_lines.proofs.Moving.{reply_keeps}
@@ -39,7 +39,7 @@ module _ (market n : ℕ) where
   settled_too other markets is = by (nat_eq market other) refl
     where
       by : (b : Bool) → nat_eq market other ≡ b → IsSettledIn (changed_in settled_market other markets)
-      by true own = subst (λ k. IsSettledIn (changed_in settled_market k markets)) (same_number market other own) (listed-closed market n true markets is)
+      by true own = subst (λ k. IsSettledIn (changed_in settled_market k markets)) (eqb-true market other own) (listed-closed market n true markets is)
       by false apart = listed-changed market settled_market other (λ m h. absurd (true≢false (sym h ∙ apart))) markets ∙ is
 
   effect_settled : (state : ExchangeState) (c : Command) → IsSettledOn state → IsSettledOn (effect state c).1

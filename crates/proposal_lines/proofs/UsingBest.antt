@@ -4,6 +4,8 @@ use Rattle.std.specs.Prelude.{◌⊎◌, IfSome}
 use Rattle.std.specs.Option.{option_map_or}
 use Rattle.std.proofs.lemmas.Int.{ints}
 use Rattle.std.proofs.lemmas.Option.{none-some}
+use Rattle.std.proofs.lemmas.Bool.{eqb-true}
+use Rattle.arithmetic.proofs.Tests.{nat_eq-turned}
 use Rattle.auction_phases.specs.Phases.{ended_by}
 use Rattle.cert_check.specs.Conditions.{IfOptimal}
 use Rattle.cert_check.specs.Laws.{IsCovered, IsMeasured, IsProved}
@@ -37,7 +39,6 @@ use Rattle.form.specs.declared.orders.Batch.{Batch}
 use Rattle.frac.specs.Value.{fraction_of}
 use Rattle.frac.specs.declared.frac128.Frac128.{Frac128}
 use Rattle.order_book.specs.Numbers.{numbers_of}
-use Rattle.order_book.proofs.MarketLists.{same_number}
 use Rattle.proposals.specs.Best.{after_offer, are_same_orders, best_for, best_of, better_measure, joined, surplus_of}
 use Rattle.proposals.specs.Laws.{IsNoWorse}
 use Rattle.proposals.specs.declared.best.Best.{Best}
@@ -54,7 +55,7 @@ use Rattle.proposal_lines.specs.Output.{proposing_line}
 use Rattle.proposal_lines.specs.Proposed.{after_proposed}
 use Rattle.proposal_lines.specs.ProposingState.{ProposingState}
 use Rattle.proposal_lines.specs.UsesBest.{BestIsUsed, IfTaken, IsAsGood, IsUsedBy, ToldClear, UsesTheBest, clear_in, cleared_in, clears_or, if_of, told_clear}
-use Rattle.proposal_lines.proofs.ByMarket.{other_way, others_kept, others_removed, own_counts}
+use Rattle.proposal_lines.proofs.ByMarket.{others_kept, others_removed, own_counts}
 use Rattle.proposal_lines.proofs.Clearing.{better_is, bounded_bound, chosen, is_most, not_below_kept}
 use Rattle.proposal_lines.proofs.Lowering.{after_counts, at_most_trans, no_less_than_new}
 use Rattle.proposal_lines.proofs.SoundAfter.{told_sound}
@@ -211,7 +212,7 @@ module _ (market : ℕ) (offer : Proposal) (bound : Fraction) (state next : Prop
 
   -- what is kept for another market is let go of
   other_ends : (other : ℕ) → nat_eq other market ≡ false → next.kept ≡ without_kept other state.kept → Later
-  other_ends other apart kept = same_kept (ap (kept_in market) kept ∙ others_removed other market (other_way other market apart) state.kept)
+  other_ends other apart kept = same_kept (ap (kept_in market) kept ∙ others_removed other market (nat_eq-turned other market false apart) state.kept)
 
   -- a surplus that fills of the live orders cover
   covered_within : (outcome : Outcome) → IsCovered (batch_in state.exchange market) outcome → AtMost (fraction_of outcome.claim.surplus) bound
@@ -247,13 +248,13 @@ module _ (market : ℕ) (offer : Proposal) (bound : Fraction) (state next : Prop
           → NoneCounts state other outcome → next.kept ≡ without_kept other state.kept → (b : Bool) → nat_eq other market ≡ b
           → IsUsed (if b then Some (told_clear (fraction_of outcome.claim.surplus) None) else None)
       cleared other outcome covered greatest none kept true is_it =
-          let here = same_number other market is_it in
+          let here = eqb-true other market is_it in
           run_used outcome (subst (λ (q : ℕ). IsCovered (batch_in state.exchange q) outcome) here covered)
           (subst (λ (q : ℕ). IsProvedGreatest (batch_in state.exchange q) outcome) here greatest) (subst (λ (q : ℕ). NoneCounts state q outcome) here none)
       cleared other outcome covered greatest none kept false apart = other_ends other apart kept
 
       settled : (other : ℕ) → next.kept ≡ without_kept other state.kept → IsOver other next.exchange → (b : Bool) → nat_eq other market ≡ b → Later
-      settled other kept over true is_it = λ same. inr (subst (λ (q : ℕ). IsOver q next.exchange) (same_number other market is_it) over)
+      settled other kept over true is_it = λ same. inr (subst (λ (q : ℕ). IsOver q next.exchange) (eqb-true other market is_it) over)
       settled other kept over false apart = other_ends other apart kept
 
       by : (reply : Reply) → IfClears (λ number other batch outcome. IsCovered (batch_in state.exchange other) outcome) reply
@@ -280,7 +281,7 @@ module _ (market : ℕ) (offer : Proposal) (bound : Fraction) (state next : Prop
       by : (b : Bool) → nat_eq answer.market market ≡ b
           → IsUsed (if b then Some (told_clear (fraction_of answer.better.proposal.claim.surplus) (Some (fraction_of answer.better.bound))) else None)
       by true is_it =
-          let here = same_number answer.market market is_it in
+          let here = eqb-true answer.market market is_it in
           let c = chosen reference (stop_of reference.mark) (counted_in state answer.market) answer.better is.better in
           let counted : Some c.kept ≡ Some counts.best = sym c.is_kept ∙ ap (counted_in state) here ∙ counts.counted in
           let same : c.kept ≡ counts.best = cc in
@@ -303,7 +304,7 @@ module _ (market : ℕ) (offer : Proposal) (bound : Fraction) (state next : Prop
   taken_used answer is = by (nat_eq market answer.proposed.market) refl
     where
       by : (b : Bool) → nat_eq market answer.proposed.market ≡ b → Later
-      by true is_it = λ same. inl (taken_better state next line answer is market (same_number market answer.proposed.market is_it) offer bound counts same)
+      by true is_it = λ same. inl (taken_better state next line answer is market (eqb-true market answer.proposed.market is_it) offer bound counts same)
       by false apart = same_kept (ap (kept_in market) is.kept ∙ others_kept answer.proposed.market market apart answer.best state.kept)
 
   line_used : (answer : ProposalAnswer) → IsToldFor state line answer next → IsUsed (clear_in market answer)
@@ -318,7 +319,7 @@ not_here : (market other : ℕ) (state : ExchangeState) → IsOver market state 
 not_here market other state over never told = by (nat_eq other market) refl
   where
     by : (b : Bool) → nat_eq other market ≡ b → (if b then Some told else None) ≡ None
-    by true is_it = absurd (never (subst (λ (q : ℕ). IsOver q state) (sym (same_number other market is_it)) over))
+    by true is_it = absurd (never (subst (λ (q : ℕ). IsOver q state) (sym (eqb-true other market is_it)) over))
     by false apart = refl
 
 module _ (market : ℕ) (state next : ProposingState) (line : InputLine) (over : IsOver market state.exchange) where

@@ -16,3 +16,6 @@ pub mod LaterClears
 pub mod LettingGo
 pub mod Reading
 pub mod Asked
+pub use Rattle.guarded_lines.specs.Replies as GuardedReplies
+pub use Rattle.guarded_lines.specs.Withdrawals
+pub use Rattle.quote_lines.specs.Laws as QuoteLaws

@@ -1,5 +1,5 @@
 -- The lists of a cover by cells, of which the items go behind one another.
-use Rattle.std.proofs.Common.{◌≡◌, ℕ, ◌+◌, ◌<◌, ◌≤◌, List, [], ◌∷◌, ◌++◌, length, drop, get_or, Bool, false, true, codes, refl, sym, ◌∙◌, arith}
+use Rattle.std.proofs.Common.{◌≡◌, ℕ, ◌+◌, ◌<◌, ◌≤◌, List, [], ◌∷◌, ◌++◌, length, drop, get_or, Bool, false, true, codes, sym, ◌∙◌, arith}
 use Rattle.std.proofs.lemmas.List.{at_drop_more, at_drop_all}
 use Rattle.cell_cover.specs.declared.cover.Multiplier.{Multiplier}
 use Rattle.reply_print.specs.BatchPieces.{natural, fraction, each, pieces_of}
@@ -33,7 +33,3 @@ pub full_added : (full old new : List ℕ) → is_some_class full ≡ true
     → (fs : Fields) → new ++ fields_text (is_some_class full) fs ≡ old ++ fields_text false (full_field full fs)
 full_added [] old new some e fs = absurd (cc)
 full_added (k ∷ ks) old new some e fs = e fs
-
-pub none_full : (full old : List ℕ) → is_some_class full ≡ false → (fs : Fields) → old ++ fields_text (is_some_class full) fs ≡ old ++ fields_text false (full_field full fs)
-none_full [] old none fs = refl
-none_full (k ∷ ks) old none fs = absurd (cc)

@@ -1,9 +1,9 @@
 -- What is told of quotes, prices and margins is taken out of its line again.
-use Rattle.std.proofs.Common.{◌≡◌, ℕ, unsigned_abs, List, ◌∷◌, ◌++◌, Bool, true, false, ◌||◌, ◌==◌, nat_le, Option, Some, option_map, option_and_then, codes, decimal, if◌then◌else◌, refl, ap, ◌∙◌, arith}
+use Rattle.std.proofs.Common.{◌≡◌, ℕ, unsigned_abs, List, ◌∷◌, ◌++◌, Bool, true, false, ◌==◌, nat_le, Option, Some, option_map, option_and_then, codes, decimal, if◌then◌else◌, refl, ap, ◌∙◌, arith}
 use Rattle.std.specs.List.{AllByRecursion}
 use Rattle.std.specs.Fmt.{signed_decimal}
 use Rattle.std.specs.Str.{bytes_eq}
-use Rattle.std.proofs.lemmas.Bool.{and_from}
+use Rattle.std.proofs.lemmas.Bool.{and_from, or_right}
 use Rattle.std.proofs.lemmas.List.Folds.{list_all-append}
 use Rattle.frac.specs.declared.frac128.Frac128.{Frac128}
 use Rattle.frac.specs.Value.{fraction_of}
@@ -72,10 +72,6 @@ low-fraction x = by (x.denominator == 1)
         list_all-append (λ b. nat_le b 57) (signed_decimal x.numerator) (47 ∷ decimal x.denominator)
         ∙ and_from (are_low (signed_decimal x.numerator)) _ (low-signed x.numerator x.above_fits) (low-decimal x.denominator (omega (arith, x.below_fits)))
 
-second : (a b : Bool) → b ≡ true → (a || b) ≡ true
-second true b h = refl
-second false b h = h
-
 not_bare : (text : List ℕ) → are_low text ≡ true → is_bare text ≡ false
 not_bare text low = rw (no_word text 119 (codes "ide") (omega arith) low, no_word text 98 (codes "udget") (omega arith) low) refl
 
@@ -127,7 +123,7 @@ module _ (line account market : ℕ) (l : IsLine line) (a : IsAccount account) (
       (then_taken _ _ liability _ (fraction_taken liability) (ap (option_map (told.Least liability)) (state_taken at h))) in
       record {
         shape = and_from _ _ (rw bare (state_is at)) refl;
-        numbers = and_from _ _ (fourth (is (codes "unbounded")) (is (codes "wide")) (is (codes "budget")) _ (fraction_number liability)) (second (is_bare text) _ (entries_are at h));
+        numbers = and_from _ _ (fourth (is (codes "unbounded")) (is (codes "wide")) (is (codes "budget")) _ (fraction_number liability)) (or_right (is_bare text) _ (entries_are at h));
         taken = paired _ _ line _ (line_taken line l)
             (then_taken _ _ account _ (natural_taken 1 MAX_ACCOUNT account a)
             (then_taken _ _ market _ (natural_taken 1 MAX_MARKET market m)

@@ -1,8 +1,8 @@
 -- A proposal of nothing is judged a bound.
-use Rattle.std.proofs.Common.{◌≡◌, ℕ, zero, suc, ◌*◌, ◌<◌, ◌≤◌, Bool, true, false, List, [], ◌∷◌, length, map, zip, get_or, replicate, pos, Ok, refl, ap, ap₂, sym, subst, ◌∙◌, arith}
+use Rattle.std.proofs.Common.{◌≡◌, ℕ, zero, suc, ◌*◌, ◌<◌, ◌≤◌, true, List, [], ◌∷◌, length, map, zip, get_or, replicate, pos, Ok, refl, ap, ap₂, sym, subst, ◌∙◌, arith}
 use Rattle.std.specs.List.{All, sum}
 use Rattle.std.specs.Prelude.{nat_le}
-use Rattle.std.proofs.lemmas.Bool.{le-leb}
+use Rattle.std.proofs.lemmas.Bool.{le-leb, true_from_ne_false}
 use Rattle.std.proofs.lemmas.Int.{ints}
 use Rattle.std.proofs.lemmas.List.{length-map, length-replicate}
 use Rattle.std.proofs.lemmas.List.Elements.{All-cons, All-nil}
@@ -45,10 +45,6 @@ use Rattle.proposal_check.proofs.Shapes.{shape_unmet}
 use Rattle.proposals.specs.Judged.{IsBare, IsBareCover, NothingIsABound, ProposesNothing, zero_prices}
 use Rattle.proposals.proofs.Bounded.{bound_fits, unit_mass}
 use Rattle.proposals.proofs.NothingOwed.{adds_nothing, leaf_is_nothing, line_is_nothing, nothing, unfilled}
-
-not_false : (b : Bool) → (b ≡ false → ⊥) → b ≡ true
-not_false true f = refl
-not_false false f = absurd (f refl)
 
 -- ---- shape and fills
 cover_on : (n : ℕ) (cover : Cover) → IsBareCover n cover → IsCoverOn n cover
@@ -96,7 +92,7 @@ shape_passes batch proposal within is =
       cover = cover_of batch proposal.cover within is.cover;
       states = subst P (sym is.measure) (states_on n);
     } in
-    not_false _ (λ failed. shape_unmet batch proposal failed met)
+    true_from_ne_false _ (λ failed. shape_unmet batch proposal failed met)
 
 each_unfilled : (orders : List Order) → All IsFill (unfilled orders)
 each_unfilled [] = All-nil IsFill
@@ -106,7 +102,7 @@ fills_pass : (batch : Batch) (proposal : Proposal) → ProposesNothing batch pro
 fills_pass batch proposal is =
     let none = replicate (length batch.orders) nothing in
     let met : AreFractionFills batch.orders none = (length-replicate (length batch.orders) nothing, each_unfilled batch.orders) in
-    not_false _ (λ failed. fills_unmet batch.orders proposal.fills failed (subst (AreFractionFills batch.orders) (sym is.fills) met))
+    true_from_ne_false _ (λ failed. fills_unmet batch.orders proposal.fills failed (subst (AreFractionFills batch.orders) (sym is.fills) met))
 
 -- ---- surplus and cover
 premium_is_nothing : (orders : List Order) → premium_of limit (unfilled orders) ≡ Ok nothing

@@ -1,7 +1,8 @@
 -- What is kept does not get worse, and stays proved.
-use Rattle.std.proofs.Common.{◌≡◌, Bool, true, false, if◌then◌else◌, arith, ℤ, ◌≤ℤ◌, pos, ◌*ℤ◌, refl}
-use Rattle.std.specs.Prelude.{int_le, IfSome, None, Some}
+use Rattle.std.proofs.Common.{◌≡◌, Bool, true, false, if◌then◌else◌, arith, pos, ◌*ℤ◌, refl}
+use Rattle.std.specs.Prelude.{IfSome, None, Some}
 use Rattle.std.proofs.lemmas.Int.{ints}
+use Rattle.arithmetic.proofs.Tests.{int_le-no}
 use Rattle.exact_num.specs.Fraction.{AtMost}
 use Rattle.exact_num.specs.Tests.{is_at_most}
 use Rattle.frac.specs.Value.{fraction_of}
@@ -13,16 +14,13 @@ use Rattle.proposals.specs.declared.best.Best.{Best}
 use Rattle.proposals.specs.Best.{are_same_orders, surplus_of, best_of, joined}
 use Rattle.proposals.specs.Laws.{IsNoWorse, OffersLoseNothing, as_proposal, IsProvedBest, OffersStayProved}
 
-above_is : (a b : ℤ) → int_le a b ≡ false → b ≤ℤ a
-above_is a b h = grind (arith, ints)
-
 -- the greater surplus, and the lesser bound
 fills_no_worse : (kept new : CoveredFills) (t : Bool) → is_at_most (surplus_of new) (surplus_of kept) ≡ t → AtMost (surplus_of kept) (surplus_of (if t then kept else new))
 fills_no_worse kept new true e = omega (arith, ints)
 fills_no_worse kept new false e =
     let x = surplus_of new in
     let y = surplus_of kept in
-    above_is (x.numerator *ℤ pos y.denominator) (y.numerator *ℤ pos x.denominator) e
+    int_le-no (x.numerator *ℤ pos y.denominator) (y.numerator *ℤ pos x.denominator) e
 
 measure_no_worse : (kept new : BoundedMeasure) (t : Bool) → is_at_most (fraction_of kept.bound) (fraction_of new.bound) ≡ t
     → AtMost (fraction_of (if t then kept else new).bound) (fraction_of kept.bound)
@@ -30,7 +28,7 @@ measure_no_worse kept new true e = omega (arith, ints)
 measure_no_worse kept new false e =
     let x = fraction_of kept.bound in
     let y = fraction_of new.bound in
-    above_is (x.numerator *ℤ pos y.denominator) (y.numerator *ℤ pos x.denominator) e
+    int_le-no (x.numerator *ℤ pos y.denominator) (y.numerator *ℤ pos x.denominator) e
 
 joined_no_worse : (kept new : Best) → IsNoWorse kept (joined kept new)
 joined_no_worse kept new = record {

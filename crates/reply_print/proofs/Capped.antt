@@ -1,18 +1,15 @@
 -- Sizes that are cut at 2^128 - 1 have the same test of lowest terms.
-use Rattle.std.proofs.Common.{◌≡◌, ℕ, ◌<◌, ◌≤◌, min, Bool, true, false, ◌&&◌, nat_le, refl, sym, ap₂, ◌∙◌, arith, inl, inr}
+use Rattle.std.proofs.Common.{◌≡◌, ℕ, ◌<◌, ◌≤◌, min, true, nat_le, refl, sym, ap₂, ◌∙◌, arith, inl, inr}
 use Rattle.std.proofs.lemmas.Bool.{cases_lt, lt-leb}
+use Rattle.std.proofs.Math.Bool.{and-false}
 use Rattle.frac.specs.Range.{limit}
 use Rattle.reply_print.specs.NumberValues.{lowest_if_small, largest_size}
 
 large_left : (a b : ℕ) → limit < a → lowest_if_small a b ≡ true
 large_left a b h = rw (lt-leb a limit h) refl
 
-and_false : (b : Bool) → (b && false) ≡ false
-and_false true = refl
-and_false false = refl
-
 large_right : (a b : ℕ) → limit < b → lowest_if_small a b ≡ true
-large_right a b h = rw (lt-leb b limit h, and_false (nat_le a limit)) refl
+large_right a b h = rw (lt-leb b limit h, and-false (nat_le a limit)) refl
 
 kept : (a b : ℕ) → a ≤ limit → b ≤ limit → lowest_if_small (min a largest_size) (min b largest_size) ≡ lowest_if_small a b
 kept a b small little =

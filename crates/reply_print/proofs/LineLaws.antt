@@ -1,15 +1,14 @@
 -- The two laws on which the lines rest.
-use Rattle.std.proofs.Common.{◌≡◌, ℕ, pos, negsuc, List, false, Some, refl, sym, ap, ◌∙◌, arith}
+use Rattle.std.proofs.Common.{◌≡◌, ℕ, pos, negsuc, false, Some, refl, sym, arith}
 use Rattle.serde_json.specs.Read.{read}
 use Rattle.serde_json.specs.Written.{compact_text, has_float, items_have_float, members_have_float}
 use Rattle.reply_print.specs.declared.replies.Reply.{Reply}
-use Rattle.serde_json.specs.Data.{Data}
-use Rattle.reply_print.specs.Piece.{Piece, whole, words, truth, list, object, Pieces, no_pieces, piece, Fields, no_fields, field, piece_text}
+use Rattle.reply_print.specs.Piece.{Piece, whole, words, truth, list, object, Pieces, no_pieces, piece, Fields, no_fields, field}
 use Rattle.reply_print.specs.PieceData.{piece_data, pieces_data, fields_data}
 use Rattle.reply_print.specs.ReplyPieces.{reply_piece, reply_line}
 use Rattle.reply_print.specs.Within.{IsWithin}
 use Rattle.reply_print.proofs.Compact.{compact-piece}
-use Rattle.reply_print.proofs.PlainPieces.{HasPlainTexts, reply_plain}
+use Rattle.reply_print.proofs.PlainPieces.{reply_plain}
 use Rattle.reply_print.proofs.ReadBack.{read-piece}
 use Rattle.reply_print.proofs.WrittenReplies.{written}
 
@@ -38,11 +37,3 @@ mutual
   no_member_float : (fs : Fields) → members_have_float (fields_data fs) ≡ false
   no_member_float no_fields = refl
   no_member_float (field k p fs) = rw (no_float p) (no_member_float fs)
-
--- what is written for the value of a piece is its text
-pub written_piece : (p : Piece) → HasPlainTexts p → (d : Data) (bytes : List ℕ) → d ≡ piece_data p → (has_float d ≡ false → bytes ≡ compact_text d) → bytes ≡ piece_text p
-written_piece p plain d bytes e w = w (ap has_float e ∙ no_float p) ∙ ap compact_text e ∙ compact-piece p plain
-
--- and so of a reply its line
-pub written_line : (line : ℕ) (reply : Reply) (d : Data) (bytes : List ℕ) → d ≡ piece_data (reply_piece line reply) → (has_float d ≡ false → bytes ≡ compact_text d) → bytes ≡ reply_line line reply
-written_line line reply d bytes e w = written_piece (reply_piece line reply) (reply_plain line reply) d bytes e w

@@ -1,11 +1,9 @@
 -- A list of values that grows with the items that it stands for.
-use Rattle.std.proofs.Common.{◌≡◌, ℕ, ◌+◌, ◌<◌, ◌≤◌, List, [], ◌∷◌, ◌++◌, length, take, get_or, Vec, Global, refl, sym, ap, ap₂, ◌∙◌}
-use Rattle.std.proofs.lemmas.List.{take_more, take_all}
-use Rattle.serde_json.specs.Data.{Data, Items, no_items, item, array}
+use Rattle.std.proofs.Common.{◌≡◌, ◌+◌, List, [], ◌∷◌, ◌++◌, refl, sym, ap, ap₂, ◌∙◌}
+use Rattle.serde_json.specs.Data.{Data, Items, no_items, item}
 use Rattle.serde_json.specs.View.{view, items_view}
-use Rattle.serde_json.specs.declared.value.Value.{Value, Array}
-use Rattle.serde_json.proofs.Views.{view-Array}
-use Rattle.reply_print.specs.BatchPieces.{pieces_of, each}
+use Rattle.serde_json.specs.declared.value.Value.{Value}
+use Rattle.reply_print.specs.BatchPieces.{pieces_of}
 use Rattle.reply_print.specs.Piece.{Piece}
 use Rattle.reply_print.specs.PieceData.{piece_data, pieces_data}
 
@@ -27,11 +25,3 @@ snoc_pieces f (y ∷ xs) x = ap (item (piece_data (f y))) (snoc_pieces f xs x)
 
 one_more : {A : Type 0} (f : A → Piece) (xs : List A) (vs : List Value) (x : A) (v : Value) → StandFor f xs vs → view v ≡ piece_data (f x) → StandFor f (xs ++ x ∷ []) (vs ++ v ∷ [])
 one_more f xs vs x v h e = snoc_items vs v ∙ ap₂ snoc h e ∙ sym (snoc_pieces f xs x)
-
-pub pushed : {A : Type 0} (f : A → Piece) (xs : List A) (i : ℕ) (d : A) (vs : List Value) (v : Value) → i < length xs → StandFor f (take i xs) vs → view v ≡ piece_data (f (get_or xs i d))
-    → StandFor f (take (i + 1) xs) (vs ++ v ∷ [])
-pushed f xs i d vs v lt h e = one_more f (take i xs) vs (get_or xs i d) v h e ∙ ap (λ l. pieces_data (pieces_of f l)) (sym (take_more xs i d lt))
-
--- the whole list
-pub finished : {A : Type 0} (f : A → Piece) (xs : List A) (i : ℕ) (v : Vec Value Global) → length xs ≤ i → StandFor f (take i xs) v.items → view (Array v) ≡ piece_data (each f xs)
-finished f xs i v all h = view-Array v ∙ ap array (h ∙ ap (λ l. pieces_data (pieces_of f l)) (take_all i xs all))

@@ -55,11 +55,6 @@ is_single (leg ∷ second ∷ more) = false
 abbrev pub are_single : List Order → Bool
 are_single orders = list_all (λ (order : Order). is_single (legs_in order.bundle)) orders
 
--- the form of the first leg
-abbrev pub first_form_piece : List Leg → Piece
-first_form_piece [] = list no_pieces
-first_form_piece (leg ∷ legs) = form_piece leg.form
-
 -- the form of one leg, or the legs
 abbrev pub bundle_field : Bool → List Leg → Fields → Fields
 bundle_field true [] more = more

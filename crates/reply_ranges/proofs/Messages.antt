@@ -2,7 +2,7 @@
 use Rattle.std.proofs.Common.{◌≡◌, ℕ, ◌+◌, ◌<◌, List, [], ◌∷◌, ◌++◌, Bool, true, false, ◌&&◌, not, cond, nat_eq, ◌==◌, pos, Option, Some, None, option_and_then, inr, codes, decimal, if◌then◌else◌, refl, sym, ap, ◌∙◌, subst, append_assoc, length, length-append, ◌-◌, arith}
 use Rattle.std.specs.Prelude.{IfSome}
 use Rattle.std.specs.List.{list_all}
-use Rattle.std.proofs.lemmas.Bool.{and_parts}
+use Rattle.std.proofs.lemmas.Bool.{and_parts, eq-eqb}
 use Rattle.std.proofs.lemmas.Bool.Decides.{nat_tests}
 use Rattle.std.proofs.lemmas.List.{take_at}
 use Rattle.std.proofs.lemmas.List.Elements.{All-nil}
@@ -12,7 +12,6 @@ use Rattle.command_text.specs.Numbers.{number_in}
 use Rattle.command_text.specs.Numbers as numbers
 use Rattle.command_text.proofs.Bounds.{natural_between, number_within}
 use Rattle.form.specs.Between.{Between}
-use Rattle.exchange_lines.proofs.RunStates.{same}
 use Rattle.session_gate.specs.declared.answer.Answer.{Answer}
 use Rattle.session_gate.specs.declared.answer.Answer.TheVariants.{First, Repeat, Old, Ahead, Changed, Sessions}
 use Rattle.limits.specs.declared.TheConstants.{MAX_MESSAGE, MAX_SESSION}
@@ -163,7 +162,7 @@ kept_after sessions session new before is q =
 
 kept_itself : (sessions : KnownSessions) (session : ℕ) (new : LastAccepted) → kept_of (keep sessions session new) session ≡ Some new
 kept_itself sessions session new =
-    kept_of-keep session new sessions session ∙ ap (λ (b : Bool). cond b (Some new) (kept_of sessions session)) (same session session refl)
+    kept_of-keep session new sessions session ∙ ap (λ (b : Bool). cond b (Some new) (kept_of sessions session)) (eq-eqb session session refl)
 
 pub without_it : (text : List ℕ) → without_feed (text ++ 10 ∷ []) ≡ text
 without_it text = take_at text (10 ∷ []) (length (text ++ 10 ∷ []) - 1) (omega (arith, length-append text (10 ∷ [])))

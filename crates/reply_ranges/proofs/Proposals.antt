@@ -3,7 +3,7 @@ use Rattle.std.proofs.Common.{◌≡◌, ℕ, ◌+◌, List, Bool, true, false, 
 use Rattle.std.specs.Prelude.{IfSome}
 use Rattle.std.specs.List.{All}
 use Rattle.std.specs.Option.{option_map_or}
-use Rattle.std.proofs.lemmas.Bool.{and_parts}
+use Rattle.std.proofs.lemmas.Bool.{and_parts, eqb-true}
 use Rattle.std.proofs.lemmas.Int.{ints}
 use Rattle.std.proofs.lemmas.List.Elements.{All-append, All-filter, filter_passes, recursion_from_All}
 use Rattle.auction_phases.specs.Phases.{ended_in}
@@ -44,7 +44,6 @@ use Rattle.order_book.specs.Markets.{MarketState}
 use Rattle.order_book.specs.Numbers.{numbers_of}
 use Rattle.order_book.specs.Refusals.{live_refusals}
 use Rattle.order_book.proofs.Accepting.{finishable, listing_live}
-use Rattle.order_book.proofs.MarketLists.{same_number}
 use Rattle.lists.specs.Refusals.{first_of}
 use Rattle.settlement.specs.declared.position.Position.{Position}
 use Rattle.reply_print.specs.Within.{IsLine}
@@ -106,8 +105,8 @@ position_within : (state : ExchangeState) (account market : ℕ) (p : Position) 
 position_within state account market p numbered kept own =
     let parts = and_parts (nat_eq p.account account) (nat_eq p.market market) own in
     record {
-      account_is = same_number p.account account parts.0;
-      market_is = same_number p.market market parts.1;
+      account_is = eqb-true p.account account parts.0;
+      market_is = eqb-true p.market market parts.1;
       batch = numbered.0;
       order = numbered.1;
       listed = kept.options;

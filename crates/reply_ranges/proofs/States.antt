@@ -30,7 +30,7 @@ use Rattle.order_book.specs.Markets.{MarketState}
 use Rattle.order_book.specs.Refusals.{batch_refusals, close_refusals, live_refusals}
 use Rattle.order_book.proofs.Accepting.{closable, finishable, listing_live, accepts}
 use Rattle.order_book.proofs.BookKept.{batch_within, market_kept}
-use Rattle.order_book.proofs.MarketLists.{live_found, same_number}
+use Rattle.order_book.proofs.MarketLists.{live_found}
 use Rattle.lists.specs.Refusals.{first_of}
 use Rattle.settlement.specs.declared.position.PaidOut.{PaidOut}
 use Rattle.settlement.specs.declared.position.Position.{Position}
@@ -67,6 +67,7 @@ use Rattle.reply_ranges.proofs.Refusals.{refusal_is_told}
 use Rattle.std.proofs.Math.Nat.{mul-le-mul_right}
 use Rattle.std.proofs.lemmas.List.Filters.{length-filter_both}
 use Rattle.std.proofs.lemmas.Nat.{mul-le}
+use Rattle.std.proofs.lemmas.Bool.{eqb-true}
 use Rattle.cash_ledger.specs.declared.entry.Cause.{Cause}
 use Rattle.cash_ledger.specs.declared.entry.Cause.TheVariants.{Payoff, Premium}
 use Rattle.form.specs.declared.orders.Side.{Side}
@@ -224,7 +225,7 @@ open_small [] account small h = cc
 open_small (a ∷ accounts) account small h = by (nat_eq account a) refl h (open_small accounts account (All-tail (λ a. a ≤ MAX_ACCOUNT) a accounts small))
   where
     by : (b : Bool) → nat_eq account a ≡ b → (b || is_open accounts account) ≡ true → (is_open accounts account ≡ true → account ≤ MAX_ACCOUNT) → account ≤ MAX_ACCOUNT
-    by true is held later = subst (λ n. n ≤ MAX_ACCOUNT) (sym (same_number account a is)) (All-head (λ a. a ≤ MAX_ACCOUNT) a accounts small)
+    by true is held later = subst (λ n. n ≤ MAX_ACCOUNT) (sym (eqb-true account a is)) (All-head (λ a. a ≤ MAX_ACCOUNT) a accounts small)
     by false is held later = later held
 
 -- ---- the payouts of a settlement

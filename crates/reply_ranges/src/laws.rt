@@ -62,7 +62,7 @@ pub fn books_are_told()
 {}
 
 /// What `propose` writes for a book is one line, as short as an exchange takes it. Wherever the
-/// orders of the book are the live ones of its market, it is taken: it is answered `proposed`.
+/// orders of the book are the live ones of its market, it is taken, and not refused.
 pub fn books_are_proposed_for()
     ensures { BooksAreProposedFor }
 {}

@@ -8,6 +8,7 @@ use Rattle.std.proofs.Math.Nat.{mul-pos, div-le_self}
 use Rattle.arithmetic.specs.Gcd.{gcd}
 use Rattle.arithmetic.proofs.Quotients.{unsigned_abs-int_div}
 use Rattle.arithmetic.proofs.Ring.{ring, V, K, ◌⊗◌}
+use Rattle.arithmetic.proofs.Integers.{zero_of_size}
 use Rattle.exact_num.specs.Fraction.{Fraction, IsLowest, whole, reduced}
 use Rattle.exact_num.specs.CommonDenominator.{IsRatio}
 use Rattle.exact_num.specs.Fits.{div_of}
@@ -19,7 +20,7 @@ use Rattle.run_equivalence.specs.IntegerRows.{IntegerRow, AreSizes, IsIntegerRow
 use Rattle.run_equivalence.specs.WholePivoting.{cross_difference, cut_where_wide, row_mixed, exchanged_in, without, row_eliminated, step_size}
 use Rattle.run_equivalence.proofs.Multiples.{reduced_is, is_reduced}
 use Rattle.run_equivalence.proofs.StepsFit.{quotients_fit}
-use Rattle.run_equivalence.proofs.IntegerRowSteps.{IsShared, shared_by, factor_size, entry_cleared, cross_at, length-mixed, mixed_none, reduced_zero, fraction_at, wide_same, zero_of_size, set_sizes}
+use Rattle.run_equivalence.proofs.IntegerRowSteps.{IsShared, shared_by, factor_size, entry_cleared, cross_at, length-mixed, mixed_none, reduced_zero, fraction_at, wide_same, set_sizes}
 
 -- ---- a number that is set
 set_over : (d : ℕ) (zs : List ℤ) (c : ℕ) (z : ℤ) (x : Fraction) → reduced z d ≡ x → set (fractions_over d zs) c x ≡ fractions_over d (set zs c z)

@@ -3,17 +3,17 @@ use Rattle.exact_num.specs.Rationals.{reduced_is_lowest}
 use Rattle.std.proofs.Common.{◌≡◌, ℕ, zero, suc, ◌+◌, ◌*◌, ◌/◌, ◌<◌, ◌≤◌, List, [], ◌∷◌, length, map, set, arith, refl, sym, ◌∙◌, ap, subst, ℤ, pos, ◌+ℤ◌, ◌*ℤ◌, ◌-ℤ◌, neg_ℤ, unsigned_abs, int_div, Bool, true, false, nat_eq}
 use Rattle.std.specs.Prelude.{Ok, if◌then◌else◌, nat_le}
 use Rattle.std.specs.Int.{◌∣◌}
-use Rattle.std.proofs.lemmas.Int.{ints, unsigned_abs-mul}
-use Rattle.std.proofs.lemmas.Bool.{and_parts, leb-true, le-leb}
+use Rattle.std.proofs.lemmas.Int.{ints}
+use Rattle.std.proofs.lemmas.Bool.{and_from, and_parts, le-leb, leb-true}
 use Rattle.std.proofs.lemmas.List.{length-map, length-set}
 use Rattle.std.proofs.lemmas.Nat.Gcd.{dvd_antisymm, dvd_refl, dvd_trans, dvd-zero}
 use Rattle.std.proofs.Math.Nat.{mul-pos, mul-le-mul, mul-le-mul_left, div-mul_cancel, div-le_self, pos_of_dvd_of_pos}
 use Rattle.arithmetic.specs.Gcd.{gcd}
 use Rattle.arithmetic.proofs.GcdLaws.{dvd_gcd, gcd_dvd_left, gcd_dvd_right, gcd_pos_right, pos_of_quotient}
-use Rattle.arithmetic.proofs.Integers.{unsigned_abs-neg}
+use Rattle.arithmetic.proofs.Integers.{size_of_product, unsigned_abs-neg}
 use Rattle.arithmetic.proofs.Quotients.{int_div-mul_cancel, unsigned_abs-int_div}
 use Rattle.arithmetic.proofs.Ring.{ring, V, K, ◌⊗◌, ◌⊖◌}
-use Rattle.arithmetic.proofs.Tests.{and_true, both_so}
+use Rattle.arithmetic.proofs.Tests.{both_so}
 use Rattle.exact_num.specs.Fraction.{Fraction, IsLowest, whole, reduced, negated}
 use Rattle.exact_num.specs.CommonDenominator.{IsRatio}
 use Rattle.exact_num.specs.Fits.{size_fits, add_of, mul_of}
@@ -78,7 +78,7 @@ sizes_least bound l =
     (λ h.
     let low : row_size l ≤ bound = leb-true (row_size l) bound h in
     let below = denominator_in l.denominator l.numbers in
-    and_true (nat_le l.denominator bound) (numbers_fit bound l.numbers) (le-leb l.denominator bound (omega (arith, low, below)))
+    and_from (nat_le l.denominator bound) (numbers_fit bound l.numbers) (le-leb l.denominator bound (omega (arith, low, below)))
     (fit_of_sizes bound l.numbers (λ j p. let size = sizes_in l.denominator l.numbers j in omega (arith, low, size))))
 
 -- ---- the entries of a row
@@ -92,8 +92,6 @@ fraction_at d (z ∷ zs) zero p = refl
 fraction_at d (z ∷ zs) (suc j) p = fraction_at d zs j p
 
 -- ---- a row eliminated
-size_of_product : (x y : ℤ) (size bound : ℕ) → unsigned_abs x ≤ size → unsigned_abs y ≤ bound → unsigned_abs (x *ℤ y) ≤ size * bound
-size_of_product x y size bound p q = subst (λ w. w ≤ size * bound) (sym (unsigned_abs-mul x y)) (mul-le-mul p q)
 
 size_of_sum : (x y : ℤ) (a b limit : ℕ) → unsigned_abs x ≤ a → unsigned_abs y ≤ b → a + b ≤ limit → unsigned_abs (x +ℤ y) ≤ limit
 size_of_sum x y a b limit p q h = omega (arith, ints, p, q, h)
@@ -252,9 +250,6 @@ cleared_shaped n c a pivot l s pa wide = step (nat_eq (unsigned_abs (number_at l
     step : (b : Bool) → IsShaped n (if b then l else cut_where_wide (row_mixed a (number_at l.numbers c) (gcd (unsigned_abs (number_at l.numbers c)) a) pivot (without c l)))
     step true = s
     step false = wide_shaped n _ (mixed_row n a (number_at l.numbers c) pivot (without c l) set_row pa wide)
-
-pub zero_of_size : (x : ℤ) → unsigned_abs x ≡ 0 → x ≡ pos 0
-zero_of_size x h = omega (arith, ints, h)
 
 -- the size of what the number in column c is without what it has in common with the pivot
 pub factor_size : (size x a most limit : ℕ) (f : ℤ) → unsigned_abs f ≡ x / gcd x a → step_size size x a most ≤ limit → size * (a / gcd x a) + unsigned_abs f * most ≤ limit

@@ -8,13 +8,12 @@ use Rattle.std.specs.declared.cmp.Ordering.{Ordering}
 use Rattle.std.specs.declared.cmp.Ordering.TheVariants.{Less, Equal, Greater}
 use Rattle.std.specs.Ordering.{int_cmp}
 use Rattle.std.proofs.lemmas.Int.{ints}
-use Rattle.std.proofs.lemmas.Bool.{and_parts, leb-true}
+use Rattle.std.proofs.lemmas.Bool.{and_from, and_parts, leb-true}
 use Rattle.std.proofs.lemmas.List.{length-set}
 use Rattle.std.proofs.Math.Nat.{mul-pos, pos_of_dvd_of_pos}
 use Rattle.std.specs.Int.{◌∣◌}
 use Rattle.arithmetic.proofs.GcdLaws.{pos_of_quotient}
 use Rattle.arithmetic.proofs.Comparisons.{int_cmp-mul}
-use Rattle.arithmetic.proofs.Tests.{and_true}
 use Rattle.arithmetic.proofs.Ring.{ring, V, ◌⊗◌}
 use Rattle.exact_num.specs.declared.misfit.Wide.{Wide}
 use Rattle.exact_num.specs.Fraction.{Fraction, over, reduced, fraction_cmp}
@@ -442,7 +441,7 @@ unfolding rows_steps_within
 rows_steps_more limit greater e r i pivot [] more h = refl
 rows_steps_more limit greater e r i pivot (row ∷ rows) more h =
     let parts = and_parts (row_steps_within limit e r pivot i row.line) (rows_steps_within limit e r pivot (i + 1) rows) h in
-    and_true (row_steps_within greater e r pivot i row.line) (rows_steps_within greater e r pivot (i + 1) rows)
+    and_from (row_steps_within greater e r pivot i row.line) (rows_steps_within greater e r pivot (i + 1) rows)
     (row_steps_more limit greater e r i pivot row.line more parts.0) (rows_steps_more limit greater e r (i + 1) pivot rows more parts.1)
 
 pub pivot_more : (limit greater e : ℕ) (w : IntegerTable) → limit ≤ greater → pivot_fits limit e w ≡ true → pivot_fits greater e w ≡ true
@@ -455,7 +454,7 @@ pivot_more limit greater e w more h = step (whole_ratios (length w.labels) e 0 w
         let r = (least q qs).place in
         let pivot = cut (integer_row_at w.rows r) in
         let parts = and_parts (steps_within limit e pivot w.objective) (rows_steps_within limit e r pivot 0 w.rows) k in
-        and_true (steps_within greater e pivot w.objective) (rows_steps_within greater e r pivot 0 w.rows)
+        and_from (steps_within greater e pivot w.objective) (rows_steps_within greater e r pivot 0 w.rows)
         (le_more _ limit greater more parts.0) (rows_steps_more limit greater e r 0 pivot w.rows more parts.1)
 
 pub turned_whole : (bound n e : ℕ) (w u : IntegerTable) → IsWithin bound n w → whole_pivot e w ≡ Some u → IsWhole n u

@@ -1,9 +1,8 @@
 -- Some limit is enough for each run over rows of whole numbers.
 use Rattle.exact_num.proofs.GreaterLimit.{le_more}
-use Rattle.arithmetic.proofs.Tests.{and_true}
 use Rattle.std.proofs.Common.{◌≡◌, ℕ, zero, suc, ◌+◌, ◌≤◌, List, [], ◌∷◌, length, arith, refl, sym, ◌∙◌, subst, unsigned_abs, nat_eq, Bool, true, false, ◌&&◌}
 use Rattle.std.specs.Prelude.{Option, Some, None, if◌then◌else◌}
-use Rattle.std.proofs.lemmas.Bool.{and_parts, le-leb}
+use Rattle.std.proofs.lemmas.Bool.{and_from, and_parts, le-leb}
 use Rattle.simplex_run.specs.Program.{LinearProgram}
 use Rattle.simplex_run.specs.Choice.{Column, Ratio, least}
 use Rattle.simplex_run.specs.Choose.{bases_of}
@@ -30,7 +29,7 @@ unfolding rows_fit
 rows_more b c [] h t = refl
 rows_more b c (row ∷ rows) h t =
     let parts = and_parts (row_fits b row.line) (rows_fit b rows) t in
-    and_true (row_fits c row.line) (rows_fit c rows) (row_more b c row.line h parts.0) (rows_more b c rows h parts.1)
+    and_from (row_fits c row.line) (rows_fit c rows) (row_more b c row.line h parts.0) (rows_more b c rows h parts.1)
 
 -- ---- rows, and the steps of a pivot, are within some limit
 rows_some : (rows : List WholeRow) → (limit : ℕ) × (rows_fit limit rows ≡ true)
@@ -39,7 +38,7 @@ rows_some [] = (0, refl)
 rows_some (row ∷ rows) =
     let s = rows_some rows in
     let limit : ℕ = row_size row.line + s.0 in
-    (limit, and_true (row_fits limit row.line) (rows_fit limit rows) (sizes_least limit row.line ∙ le-leb (row_size row.line) limit (omega arith)) (rows_more s.0 limit rows (omega arith) s.1))
+    (limit, and_from (row_fits limit row.line) (rows_fit limit rows) (sizes_least limit row.line ∙ le-leb (row_size row.line) limit (omega arith)) (rows_more s.0 limit rows (omega arith) s.1))
 
 -- the size of the steps of a row
 steps_of : ℕ → IntegerRow → IntegerRow → ℕ
@@ -55,7 +54,7 @@ rows_steps_some e r i pivot [] = (0, refl)
 rows_steps_some e r i pivot (row ∷ rows) =
     let s = rows_steps_some e r (i + 1) pivot rows in
     let limit : ℕ = steps_of e pivot row.line + s.0 in
-    (limit, and_true (row_steps_within limit e r pivot i row.line) (rows_steps_within limit e r pivot (i + 1) rows) (step limit (steps_some limit e pivot row.line (omega arith)) (nat_eq i r)) (rows_steps_more s.0 limit e r (i + 1) pivot rows (omega arith) s.1))
+    (limit, and_from (row_steps_within limit e r pivot i row.line) (rows_steps_within limit e r pivot (i + 1) rows) (step limit (steps_some limit e pivot row.line (omega arith)) (nat_eq i r)) (rows_steps_more s.0 limit e r (i + 1) pivot rows (omega arith) s.1))
   where
     step : (limit : ℕ) → steps_within limit e pivot row.line ≡ true → (b : Bool) → (if b then true else steps_within limit e pivot row.line) ≡ true
     step limit h true = refl
@@ -72,7 +71,7 @@ pivot_some e w = step (whole_ratios (length w.labels) e 0 w.rows)
         let pivot = cut (integer_row_at w.rows r) in
         let s = rows_steps_some e r 0 pivot w.rows in
         let limit : ℕ = steps_of e pivot w.objective + s.0 in
-        (limit, and_true (steps_within limit e pivot w.objective) (rows_steps_within limit e r pivot 0 w.rows) (steps_some limit e pivot w.objective (omega arith)) (rows_steps_more s.0 limit e r 0 pivot w.rows (omega arith) s.1))
+        (limit, and_from (steps_within limit e pivot w.objective) (rows_steps_within limit e r pivot 0 w.rows) (steps_some limit e pivot w.objective (omega arith)) (rows_steps_more s.0 limit e r 0 pivot w.rows (omega arith) s.1))
 
 -- ---- a run that is not given up is the same with each greater limit
 run_more : (limit greater n m left spent : ℕ) (w : IntegerTable) (end : Ending Optimum) → limit ≤ greater → whole_run_from limit n m left spent w ≡ Some end → whole_run_from greater n m left spent w ≡ Some end
@@ -87,7 +86,7 @@ run_more limit greater n m (suc left) spent w end more k = step (whole_entering 
         → (if t then whole_run_from limit n m left (spent + 1) u else None) ≡ Some end → go greater c.place u ≡ Some end
     next_run c u true f later q =
         let parts = and_parts (pivot_fits limit c.place w) (rows_fit limit u.rows) f in
-        let t = and_true (pivot_fits greater c.place w) (rows_fit greater u.rows) (pivot_more limit greater c.place w more parts.0) (rows_more limit greater u.rows more parts.1) in
+        let t = and_from (pivot_fits greater c.place w) (rows_fit greater u.rows) (pivot_more limit greater c.place w more parts.0) (rows_more limit greater u.rows more parts.1) in
         rw t (later q)
     next_run c u false f later q = absurd cc
 

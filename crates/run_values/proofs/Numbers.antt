@@ -38,10 +38,6 @@ pub after_has : {A B : Type 0} (P : A → Type 0) (Q : B → Type 0) (r : Result
 after_has P Q (Ok a) next h f = f a h
 after_has P Q (Err w) next h f = h
 
-pub weaker_has : {A : Type 0} (P Q : A → Type 0) (r : Result A Wide) → ((a : A) → P a → Q a) → Has P r → Has Q r
-weaker_has P Q (Ok a) f h = f a h
-weaker_has P Q (Err w) f h = h
-
 pub answer_ends : {A B : Type 0} (P : A → Type 0) (Q : B → Type 0) (e : Ending A) (next : A → ℕ → Ending B) → Ends P e → ((a : A) (spent : ℕ) → P a → Ends Q (next a spent)) → Ends Q (on_answer e next)
 answer_ends P Q e next h f = on_answer-by (λ a spent. P a) (λ b spent. Q b) (Unit {0}) (λ w spent. AreOperands w) e next h f
 

@@ -1,14 +1,14 @@
 -- The numbers of a run of the simplex method, and the step at which it stops.
-use Rattle.std.proofs.Common.{◌≡◌, ◌≢◌, ℕ, zero, suc, ◌+◌, ◌*◌, ◌<ℤ◌, List, [], ◌∷◌, length, map, drop, set, ℤ, pos, Bool, true, false, nat_eq, refl, subst, arith}
+use Rattle.std.proofs.Common.{◌≡◌, ◌≢◌, ℕ, zero, suc, ◌+◌, ◌*◌, List, [], ◌∷◌, length, map, drop, set, pos, Bool, true, false, nat_eq, refl, arith}
 use Rattle.std.specs.Prelude.{Option, Some, None, Result, Ok, Err, if◌then◌else◌, nat_lt}
 use Rattle.std.specs.List.{All}
-use Rattle.std.proofs.lemmas.Int.{ints}
 use Rattle.std.proofs.lemmas.List.Elements.{All-nil, All-cons, All-head, All-tail, All-append, All-drop, All-get_or, All-map, All-take, All-weaker}
 use Rattle.arithmetic.proofs.Tests.{int_lt-yes}
 use Rattle.exact_num.specs.declared.misfit.Wide.{Wide}
 use Rattle.exact_num.specs.Fraction.{Fraction, IsLowest, negated, whole}
 use Rattle.exact_num.specs.Fits.{after, div_of, mul_of, sub_of}
 use Rattle.exact_num.specs.Tests.{is_above_zero}
+use Rattle.exact_num.proofs.Rationals.{above_not_zero}
 use Rattle.frac.specs.Range.{limit as largest}
 use Rattle.simplex_run.specs.Choice.{Ratio, Column, entering, least, ratio_in, ratios}
 use Rattle.simplex_run.specs.Ending.{unbounded, wide_at, no_unit_left}
@@ -116,8 +116,6 @@ pivoted_has c r t has some =
     (λ objective o. record { rows = rs; objective = o })))
 
 -- ---- a pivoted
-above_some : (z : ℤ) → pos 0 <ℤ z → z ≢ pos 0
-above_some z above none = let moved : pos 0 <ℤ pos 0 = subst (λ w. pos 0 <ℤ w) none above in omega (arith, ints, moved)
 
 ratio_has : (columns e : ℕ) (entries : List Fraction) → AreValues entries → Has Nothing (ratio_in largest columns e entries)
 unfolding ratio_in
@@ -126,7 +124,7 @@ ratio_has columns e entries are = by (is_above_zero (at entries e)) refl
     by : (b : Bool) → is_above_zero (at entries e) ≡ b → Has Nothing (if b then after (div_of largest (right_side columns entries) (at entries e)) (λ q. Ok (Some q)) else Ok None)
     by true above =
         after_has IsValue Nothing (div_of largest (right_side columns entries) (at entries e)) (λ q. Ok (Some q))
-        (div_has (right_side columns entries) (at entries e) (at_value entries columns are) (at_value entries e are) (above_some (at entries e).numerator (int_lt-yes (pos 0) (at entries e).numerator above)))
+        (div_has (right_side columns entries) (at entries e) (at_value entries columns are) (at_value entries e are) (above_not_zero (at entries e).numerator (int_lt-yes (pos 0) (at entries e).numerator above)))
         (λ q h. tt)
     by false below = tt
 
@@ -157,7 +155,7 @@ turn_has e t has = by (ratios largest (length t.labels) e 0 t.rows) refl (ratios
     by (Ok []) is h = tt
     by (Ok (q ∷ qs)) is h =
         let limits = least_limits largest (length t.labels) e t.rows q qs low is in
-        pivots (after_pivot largest e (least q qs).place t) (pivoted_has e (least q qs).place t has (above_some _ limits.1))
+        pivots (after_pivot largest e (least q qs).place t) (pivoted_has e (least q qs).place t has (above_not_zero _ limits.1))
     by (Err w) is h = h
 
 -- ---- what is read off

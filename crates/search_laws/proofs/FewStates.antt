@@ -3,6 +3,7 @@ use Rattle.std.proofs.Common.{◌≡◌, ℕ, zero, suc, ◌+◌, ◌-◌, ◌/�
 use Rattle.std.specs.Prelude.{Option, Some, None}
 use Rattle.std.proofs.lemmas.List.{length-map}
 use Rattle.std.proofs.lemmas.List.Elements.{All-nil, All-cons, All-append}
+use Rattle.std.proofs.lemmas.Option.{same_Some}
 use Rattle.simplex_run.specs.Ending.{Ending, done, unbounded, wide_at, no_unit_left, on_answer}
 use Rattle.simplex_run.proofs.Endings.{on_answer-done}
 use Rattle.form.specs.declared.orders.Order.{Order}
@@ -108,9 +109,6 @@ go_on limits n left spent orders states r z units e =
     ap (λ (e : Ending Reading). on_answer e (next_search limits n orders left states)) finds.solved
     ∙ ap (λ (e : Ending Found). on_answer e (on_search r (next_round limits n orders left states))) finds.searched
 
-some_same : (a b : RoundStart) → Some a ≡ Some b → a ≡ b
-some_same a b h = cc
-
 -- the end of a round with which another one begins
 record WasFound (states : List (List ℕ)) (e : Ending (Reading × Found)) (next : RoundStart) : Type 0 where
   reading : Reading
@@ -122,7 +120,7 @@ record WasFound (states : List (List ℕ)) (e : Ending (Reading × Found)) (next
 was_found : (states : List (List ℕ)) (e : Ending (Reading × Found)) (next : RoundStart) → with_found states e ≡ Some next → WasFound states e next
 was_found states (done (r, closed tree) units) next h = cc
 was_found states (done (r, found z) units) next h =
-    record { reading = r; state = z; units = units; end = refl; is = some_same (record { states = states ++ (z ∷ []); units = units }) next h }
+    record { reading = r; state = z; units = units; end = refl; is = same_Some (record { states = states ++ (z ∷ []); units = units }) next h }
 was_found states (unbounded d units) next h = cc
 was_found states (wide_at units w) next h = cc
 was_found states (no_unit_left units) next h = cc
@@ -141,7 +139,7 @@ unfolding round_start rounds
 begins limits n spent zero orders start some few le h =
     let first : RoundStart = record { states = axis_rays n; units = spent } in
     let all : limits.budget + 1 - 0 ≡ limits.budget + 1 = omega arith in
-    subst (BeginsWith limits n orders spent 0) (some_same first start h)
+    subst (BeginsWith limits n orders spent 0) (same_Some first start h)
     (record { rest = rw all refl; few = few_at_first n limits.budget spent le; round = omega arith })
 begins limits n spent (suc k) orders start some few le h =
     let b = before limits n orders (round_start limits n orders spent k) start h in

@@ -168,10 +168,6 @@ branches_are_paid q (suc depth) signs spent asked =
     (on_node-paid spent (both_sides q depth signs)
     (λ place units two. sides_paid q depth signs place spent units (omega (arith, two)) (λ signs units. branches_are_paid q depth signs units asked)))
 
--- so do both sides of a split whose node spent a unit before
-pub sides_are_paid : (q : Question) (depth : ℕ) (signs : List Sign) (place spent units : ℕ) → IsAsked q → spent < units → IsPaid spent (both_sides q depth signs place units)
-sides_are_paid q depth signs place spent units asked lt = sides_paid q depth signs place spent units lt (λ signs units. branches_are_paid q depth signs units asked)
-
 pub search_is_paid : SearchIsPaid
 unfolding search
 search_is_paid q spent asked = branches_are_paid q (length (legs_in q)) (replicate (length (legs_in q)) Unsigned) spent asked

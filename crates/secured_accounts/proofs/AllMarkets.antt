@@ -1,10 +1,9 @@
 -- What an account has in all markets of the book, in the order in which they were listed: a balance
 -- is enough for these just where it is for those that its need is told of.
-use Rattle.std.proofs.Common.{◌≡◌, ℕ, Bool, true, false, not, ◌&&◌, List, [], ◌∷◌, map, filter, length, nat_eq, if◌then◌else◌, arith, ℤ, refl}
+use Rattle.std.proofs.Common.{◌≡◌, ℕ, Bool, true, false, ◌&&◌, List, [], ◌∷◌, map, filter, length, nat_eq, if◌then◌else◌, arith, ℤ, refl}
 use Rattle.std.specs.List.{IsDistinct}
 use Rattle.std.specs.Map.{keys_of}
-use Rattle.std.proofs.lemmas.Bool.{and_parts}
-use Rattle.order_book.proofs.MarketLists.{same_number}
+use Rattle.std.proofs.lemmas.Bool.{and_parts, eqb-true, not-false}
 use Rattle.exchange_core.specs.ExchangeState.{ExchangeState}
 use Rattle.exchange_core.specs.Held.{market_numbers}
 use Rattle.account_need.specs.Account.{Numbered, portfolios}
@@ -16,15 +15,11 @@ use Rattle.secured_accounts.proofs.InOrder.{listed, sorted}
 -- ---- markets in which there is nothing
 no_items : {X : Type 0} (xs : List X) → nat_eq (length xs) 0 ≡ true → xs ≡ []
 no_items [] e = refl
-no_items (x ∷ xs) e = absurd (omega (arith, same_number (length (x ∷ xs)) 0 e))
-
-both : (b : Bool) → not b ≡ false → b ≡ true
-both true e = refl
-both false e = cc
+no_items (x ∷ xs) e = absurd (omega (arith, eqb-true (length (x ∷ xs)) 0 e))
 
 has_nothing : (m : Numbered) → has_some m ≡ false → HasNothing m.1
 has_nothing m none =
-    let parts = and_parts (nat_eq (length m.1.positions) 0) (nat_eq (length m.1.live) 0) (both (nat_eq (length m.1.positions) 0 && nat_eq (length m.1.live) 0) none) in
+    let parts = and_parts (nat_eq (length m.1.positions) 0) (nat_eq (length m.1.live) 0) (not-false (nat_eq (length m.1.positions) 0 && nat_eq (length m.1.live) 0) none) in
     record { positions = no_items m.1.positions parts.0; live = no_items m.1.live parts.1 }
 
 module _ (state : ExchangeState) (account : ℕ) where

@@ -5,6 +5,8 @@ use Rattle.std.specs.List.{All}
 use Rattle.std.specs.Map.{keys_of}
 use Rattle.std.proofs.lemmas.Int.{ints}
 use Rattle.std.proofs.lemmas.List.Elements.{All-take, filter-append}
+use Rattle.std.proofs.lemmas.Bool.{eqb-true}
+use Rattle.arithmetic.proofs.Tests.{nat_eq-turned}
 use Rattle.cash_ledger.specs.Entries.{balance_of}
 use Rattle.cash_ledger.proofs.Balances.{balance_of-append}
 use Rattle.clearing_model.specs.Certificate.{AreFractionFills}
@@ -18,7 +20,7 @@ use Rattle.order_book.specs.Markets.{MarketState, changed_in, settled_market, wi
 use Rattle.order_book.specs.Refusals.{batch_refusals}
 use Rattle.order_book.proofs.Accepting.{closable, finishable}
 use Rattle.order_book.proofs.LiveElsewhere.{live-changed}
-use Rattle.order_book.proofs.MarketLists.{keys_changed, live_found, same_number}
+use Rattle.order_book.proofs.MarketLists.{keys_changed, live_found}
 use Rattle.exchange_core.specs.ExchangeState.{ExchangeState}
 use Rattle.exchange_core.specs.Held.{is_held_by, is_order_of, positions_of}
 use Rattle.exchange_core.specs.Kept.{IsKept}
@@ -35,7 +37,6 @@ use Rattle.account_need.proofs.Clears.{clears_keep}
 use Rattle.account_need.proofs.Settles.{settlements_keep}
 use Rattle.secured_accounts.specs.Secured.{part_in}
 use Rattle.secured_accounts.proofs.Effects.{IsCovered, carried, same_part, still}
-use Rattle.secured_accounts.proofs.InOrder.{turned}
 use Rattle.secured_accounts.proofs.Markets.{found_changed, paid_in, paid_once, underlyings-changed, underlyings_of}
 use Rattle.secured_accounts.proofs.OwnFills.{all_filled, as_filled, own_filled, own_fills, own_orders, premiums}
 use Rattle.secured_accounts.proofs.ListsOfOne.{held_elsewhere, none_outside}
@@ -52,7 +53,7 @@ module _ (account : ℕ) (some : 1 ≤ account) (state : ExchangeState) (kept : 
       where
         by : (b : Bool) → nat_eq n market ≡ b → IsEnough (part_in state account n) x → IsEnough (part_in after account n) (x +ℤ (if b then amount else pos 0))
         by true at e =
-            let own = same_number n market at in
+            let own = eqb-true n market at in
             subst (λ (k : ℕ). IsEnough (part_in after account k) (x +ℤ amount)) (sym own) (here x (subst (λ (k : ℕ). IsEnough (part_in state account k) x) own e))
         by false at e = still (part_in after account n) x (subst (λ (p : Portfolio). IsEnough p x) (sym (others n at)) e)
 
@@ -79,7 +80,7 @@ module _ (account : ℕ) (some : 1 ≤ account) (state : ExchangeState) (kept : 
     elsewhere : (n : ℕ) → nat_eq n market ≡ false → part_in (cleared_with state market fills) account n ≡ part_in state account n
     elsewhere n apart =
         same_part account state (cleared_with state market fills) n (underlyings-changed n market (λ m. with_live m []) (λ m. refl) state.book.markets)
-        (held_elsewhere account n market (state.book.finished + 1) (turned n market false apart) state.positions (batch_in state market).orders fills)
+        (held_elsewhere account n market (state.book.finished + 1) (nat_eq-turned n market false apart) state.positions (batch_in state market).orders fills)
         (ap (filter (is_order_of account)) (live-changed n market apart (λ m. with_live m []) state.book.markets))
 
     pub cleared : IsCovered account state → IsCovered account (cleared_with state market fills)

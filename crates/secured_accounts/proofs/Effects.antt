@@ -5,6 +5,7 @@ use Rattle.std.specs.Map.{keys_of}
 use Rattle.std.specs.Option.{option_map_or}
 use Rattle.std.proofs.lemmas.Int.{ints}
 use Rattle.std.proofs.lemmas.List.{map-append}
+use Rattle.std.proofs.lemmas.Bool.{eqb-true}
 use Rattle.arithmetic.specs.Sums.{total}
 use Rattle.cash_ledger.specs.Entries.{amount_for, balance_of, deposit_of, withdrawal_of}
 use Rattle.cash_ledger.proofs.Balances.{balance_of-push}
@@ -17,7 +18,6 @@ use Rattle.command_text.specs.declared.command.Command.TheVariants.{Market}
 use Rattle.order_book.proofs.Accepting.{listable}
 use Rattle.order_book.proofs.BookKept.{keys_taken}
 use Rattle.order_book.proofs.LiveElsewhere.{live-listed, live-without}
-use Rattle.order_book.proofs.MarketLists.{same_number}
 use Rattle.exchange_core.specs.ExchangeState.{ExchangeState}
 use Rattle.exchange_core.specs.Held.{is_order_of, orders_of, positions_of, underlyings_in}
 use Rattle.exchange_core.specs.Kept.{IsKept, on_if_trading}
@@ -109,7 +109,7 @@ module _ (account : ℕ) where
           live n = by (nat_eq n order.market) refl
             where
               by : (b : Bool) → nat_eq n order.market ≡ b → orders_of account n (place_effect state order).1.book ≡ orders_of account n state.book
-              by true at = subst (λ (k : ℕ). orders_of account k (place_effect state order).1.book ≡ orders_of account k state.book) (sym (same_number n order.market at)) here
+              by true at = subst (λ (k : ℕ). orders_of account k (place_effect state order).1.book ≡ orders_of account k state.book) (sym (eqb-true n order.market at)) here
               by false at = orders_elsewhere state order none account n at
 
       pub cancelled : (number : ℕ) → IsCovered state → IsCovered (cancel_effect state number).1
@@ -162,7 +162,7 @@ module _ (account : ℕ) where
             where
               by : (b : Bool) → nat_eq n market ≡ b → IsEnough (part_in after account n) x
               by true at =
-                  subst (λ (k : ℕ). IsEnough (part_in after account k) x) (sym (same_number n market at))
+                  subst (λ (k : ℕ). IsEnough (part_in after account k) x) (sym (eqb-true n market at))
                   (nothing_enough (part_in after account market) x empty (enough_not_below (part_in state account n) x e))
               by false at =
                   subst (λ (p : Portfolio). IsEnough p x)

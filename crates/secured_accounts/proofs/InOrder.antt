@@ -1,10 +1,10 @@
 -- Portfolios of numbers that are put in order.
-use Rattle.std.proofs.Common.{◌≡◌, ℕ, Bool, true, false, cond, List, [], ◌∷◌, ◌++◌, map, fold, nat_eq, nat_lt, nat_cmp, Ordering, Less, Equal, Greater, append-nil, arith, ℤ, refl, sym, subst}
+use Rattle.std.proofs.Common.{◌≡◌, ℕ, Bool, true, false, cond, List, [], ◌∷◌, ◌++◌, map, fold, nat_eq, nat_lt, nat_cmp, Ordering, Less, Equal, Greater, append-nil, ℤ, refl, sym, subst}
 use Rattle.std.specs.BTreeSet.{insert_key}
 use Rattle.std.specs.List.{AllByRecursion, IsDistinct}
 use Rattle.std.specs.Ordering.{match_ordering}
-use Rattle.std.proofs.lemmas.Bool.Decides.{nat_tests}
 use Rattle.std.proofs.lemmas.Map.Keys.{IsDistinct-head, IsDistinct-tail}
+use Rattle.arithmetic.proofs.Tests.{nat_eq-turned}
 use Rattle.account_need.specs.Exposure.{IsSecured, Portfolio}
 use Rattle.secured_accounts.proofs.Enough.{dropped, swapped, under}
 
@@ -20,11 +20,6 @@ not_equal n k same other = by (nat_lt n k) (nat_eq n k) same other
     by true is e h = cc
     by false true e h = cc
     by false false e h = cc
-
--- a test of two numbers, from either side
-pub turned : (a b : ℕ) (t : Bool) → nat_eq a b ≡ t → nat_eq b a ≡ t
-turned a b true e = grind (arith, nat_tests)
-turned a b false e = grind (arith, nat_tests)
 
 -- apart from all and from one more
 apart_more : (n k : ℕ) (numbers : List ℕ) → nat_eq n k ≡ false → IsApart n numbers → IsApart n (insert_key nat_cmp numbers k)
@@ -44,7 +39,7 @@ AreApart (k ∷ keys) numbers = IsApart k numbers × AreApart keys numbers
 are_apart_more : (k : ℕ) (keys numbers : List ℕ) → IsApart k keys → AreApart keys numbers → AreApart keys (insert_key nat_cmp numbers k)
 are_apart_more k [] numbers apart all = tt
 are_apart_more k (key ∷ keys) numbers apart all =
-    (apart_more key k numbers (turned k key false apart.0) all.0, are_apart_more k keys numbers apart.1 all.1)
+    (apart_more key k numbers (nat_eq-turned k key false apart.0) all.0, are_apart_more k keys numbers apart.1 all.1)
 
 none_apart : (keys : List ℕ) → AreApart keys []
 none_apart [] = tt

@@ -1,11 +1,11 @@
 -- The positions and the live orders of one account, as others come and go.
-use Rattle.std.proofs.Common.{◌≡◌, ℕ, Bool, true, false, cond, not, ◌&&◌, List, [], ◌∷◌, ◌++◌, filter, Some, None, if◌then◌else◌, nat_eq, int_lt, pos, refl, sym, ap, ◌∙◌, append-nil}
+use Rattle.std.proofs.Common.{◌≡◌, ℕ, Bool, true, false, cond, not, List, [], ◌∷◌, ◌++◌, filter, Some, None, if◌then◌else◌, nat_eq, int_lt, pos, refl, sym, ap, ◌∙◌, append-nil}
 use Rattle.std.proofs.lemmas.List.Elements.{All-head, All-tail, filter-append}
+use Rattle.std.proofs.lemmas.Bool.{and_right, eqb-true}
 use Rattle.form.specs.declared.orders.Order.{Order}
 use Rattle.frac.specs.declared.frac128.Frac128.{Frac128}
 use Rattle.frac.specs.Value.{fraction_of}
 use Rattle.order_book.specs.Markets.{Markets}
-use Rattle.order_book.proofs.MarketLists.{same_number}
 use Rattle.settlement.specs.declared.position.Position.{Position}
 use Rattle.settlement.specs.Positions.{outside}
 use Rattle.exchange_core.specs.Held.{is_held_by, is_order_of, positions_of}
@@ -40,11 +40,7 @@ module _ (account : ℕ) where
 
   -- ---- positions
   not_held : (market : ℕ) (p : Position) → nat_eq p.market market ≡ false → is_held_by account market p ≡ false
-  not_held market p other = by (nat_eq p.account account) (nat_eq p.market market) other
-    where
-      by : (own here : Bool) → here ≡ false → (own && here) ≡ false
-      by true here e = e
-      by false here e = refl
+  not_held market p other = and_right (nat_eq p.account account) (nat_eq p.market market) other
 
   skipped : (market : ℕ) (p : Position) (ps : List Position) → nat_eq p.market market ≡ false → positions_of account market (p ∷ ps) ≡ positions_of account market ps
   skipped market p ps other = ap (λ c. cond c (p ∷ positions_of account market ps) (positions_of account market ps)) (not_held market p other)
@@ -62,7 +58,7 @@ module _ (account : ℕ) where
       trades n some none = cc
 
       by : (b : Bool) → nat_eq p.market market ≡ b → positions_of account market ps ≡ [] → positions_of account market (p ∷ ps) ≡ []
-      by true at later = absurd (trades here.underlyings here.trading (ap (trading_on markets) (same_number p.market market at) ∙ none))
+      by true at later = absurd (trades here.underlyings here.trading (ap (trading_on markets) (eqb-true p.market market at) ∙ none))
       by false at later = skipped market p ps at ∙ later
 
   -- nor in one that is settled now

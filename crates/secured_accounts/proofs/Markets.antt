@@ -5,12 +5,13 @@ use Rattle.std.specs.Map.{keys_of, lookup}
 use Rattle.std.specs.Option.{option_map, option_map_or}
 use Rattle.std.proofs.lemmas.Int.{ints}
 use Rattle.std.proofs.lemmas.Map.Keys.{IsDistinct-head, IsDistinct-tail}
+use Rattle.std.proofs.lemmas.Bool.{eqb-true}
 use Rattle.arithmetic.specs.Sums.{total}
+use Rattle.arithmetic.proofs.Tests.{nat_eq-turned}
 use Rattle.order_book.specs.Book.{info_of}
 use Rattle.order_book.specs.declared.market.MarketInfo.{MarketInfo}
 use Rattle.order_book.specs.Markets.{MarketState, Markets, changed_in, with_live, without, without_in_each}
-use Rattle.order_book.proofs.MarketLists.{same_number, value_found}
-use Rattle.secured_accounts.proofs.InOrder.{turned}
+use Rattle.order_book.proofs.MarketLists.{value_found}
 
 -- the underlyings of a market that may be there
 abbrev pub underlyings_of : Option MarketState → ℕ
@@ -67,7 +68,7 @@ module _ (market : ℕ) where
   paid_apart : (amount : ℤ) (keys : List ℕ) → AllByRecursion (λ k. nat_eq market k ≡ false) keys → total (paid_in amount) keys ≡ pos 0
   paid_apart amount [] apart = refl
   paid_apart amount (k ∷ keys) apart =
-      let here : paid_in amount k ≡ pos 0 = ap (λ b. if b then amount else pos 0) (turned market k false apart.0) in
+      let here : paid_in amount k ≡ pos 0 = ap (λ b. if b then amount else pos 0) (nat_eq-turned market k false apart.0) in
       omega (arith, ints, here, paid_apart amount keys apart.1)
 
   pub paid_once : (amount : ℤ) (markets : Markets) (m : MarketState) → IsDistinct nat_eq (keys_of markets) → lookup (nat_eq market) markets ≡ Some m → total (paid_in amount) (keys_of markets) ≡ amount
@@ -76,13 +77,13 @@ module _ (market : ℕ) where
       by (nat_eq market e.0) refl found (paid_once amount markets m (IsDistinct-tail nat_eq e.0 (keys_of markets) distinct))
     where
       here : (b : Bool) → nat_eq market e.0 ≡ b → paid_in amount e.0 ≡ (if b then amount else pos 0)
-      here b at = ap (λ c. if c then amount else pos 0) (turned market e.0 b at)
+      here b at = ap (λ c. if c then amount else pos 0) (nat_eq-turned market e.0 b at)
 
       by : (b : Bool) → nat_eq market e.0 ≡ b → cond b (Some e.1) (lookup (nat_eq market) markets) ≡ Some m
           → (lookup (nat_eq market) markets ≡ Some m → total (paid_in amount) (keys_of markets) ≡ amount)
           → paid_in amount e.0 +ℤ total (paid_in amount) (keys_of markets) ≡ amount
       by true at h later =
-          let own = same_number market e.0 at in
+          let own = eqb-true market e.0 at in
           let apart = subst (λ n. AllByRecursion (λ k. nat_eq n k ≡ false) (keys_of markets)) (sym own) (IsDistinct-head nat_eq e.0 (keys_of markets) distinct) in
           omega (arith, ints, here true at, paid_apart amount (keys_of markets) apart)
       by false at h later = omega (arith, ints, here false at, later h)

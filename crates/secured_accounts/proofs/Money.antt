@@ -6,8 +6,10 @@ use Rattle.std.proofs.lemmas.Cmp.{nat_eq_equiv}
 use Rattle.std.proofs.lemmas.Int.{ints}
 use Rattle.std.proofs.lemmas.List.Elements.{All-nil, All-cons, All-head, All-tail, All-append, All-filter, All-map, All-weaker}
 use Rattle.std.proofs.lemmas.Map.Keys.{IsDistinct-head, IsDistinct-push, IsDistinct-tail}
+use Rattle.std.proofs.lemmas.Bool.{eqb-true, not-false}
 use Rattle.arithmetic.specs.Sums.{total}
 use Rattle.arithmetic.proofs.Sums.{total-append}
+use Rattle.arithmetic.proofs.Tests.{nat_eq-turned}
 use Rattle.cash_ledger.specs.declared.entry.Entry.{Entry}
 use Rattle.cash_ledger.specs.declared.entry.Cause.{Cause}
 use Rattle.cash_ledger.specs.declared.entry.Cause.TheVariants.{Payoff, Premium}
@@ -18,6 +20,7 @@ use Rattle.command_text.specs.declared.command.Command.{Command}
 use Rattle.command_text.specs.declared.command.Command.TheVariants.{Balance, Bundle, Cancel, Clear, Deposit, Market, Open, Settle, Trade, Withdraw}
 use Rattle.exact_num.specs.Fraction.{Fraction}
 use Rattle.lists.specs.Refusals.{first_of}
+use Rattle.lists.proofs.FirstRefusal.{first_unmet}
 use Rattle.limits.specs.declared.TheConstants.{MAX_ACCOUNTS}
 use Rattle.form.specs.declared.orders.Order.{Order}
 use Rattle.form.specs.declared.orders.Side.{Side}
@@ -26,7 +29,6 @@ use Rattle.frac.specs.declared.frac128.Frac128.{Frac128}
 use Rattle.frac.specs.Value.{fraction_of}
 use Rattle.order_book.specs.Book.{batch_of, market_of}
 use Rattle.order_book.specs.Markets.{MarketState}
-use Rattle.order_book.proofs.MarketLists.{same_number}
 use Rattle.settlement.specs.declared.position.PaidOut.{PaidOut}
 use Rattle.settlement.specs.declared.position.Position.{Position}
 use Rattle.settlement.specs.Positions.{held_in, is_of, paid_out, payouts_of}
@@ -46,7 +48,6 @@ use Rattle.account_need.specs.Account.{Need}
 use Rattle.secured_accounts.specs.Laws.{Asked, Charged, Event, Guarded, MayCome, Securing, after_event, after_events, AreComing, guarded}
 use Rattle.secured_accounts.specs.Money.{AddUp, AreAccountedFor, BalancesAddUp, IsAccountedFor, MoneyIsKept, if_from_outside}
 use Rattle.secured_accounts.specs.Secured.{uncovered}
-use Rattle.secured_accounts.proofs.InOrder.{turned}
 use Rattle.secured_accounts.proofs.Markets.{none_paid}
 
 abbrev amount_of : Entry → ℤ
@@ -126,14 +127,6 @@ module _ (opened : List ℕ) where
         (all_paid payouts (All-tail IsPaid paid payouts held))
 
 -- ---- the exchange
--- where the first of some refusals is none
-not_first : {R : Type 0} (b : Bool) (first : R) (others : Option R) → (if b then Some first else others) ≡ None → b ≡ false
-not_first true first others none = cc
-not_first false first others none = refl
-
-is_held : {R : Type 0} (b : Bool) (first : R) (others : Option R) → (if not b then Some first else others) ≡ None → b ≡ true
-is_held true first others none = refl
-is_held false first others none = cc
 
 -- the orders of a batch are the live orders of its market
 batch_live : (found : Option MarketState) → (option_map_or batch_of found (record { underlyings = 0; orders = [] })).orders ≡ option_map_or (λ (m : MarketState). m.live) found []
@@ -146,7 +139,7 @@ module _ (state : ExchangeState) (kept : IsKept state) (all : IsAccountedFor sta
 
   opens : (account : ℕ) → refusal_of state (Open account) ≡ None → IsAccountedFor (effect state (Open account)).1
   opens account none = record {
-    distinct = IsDistinct-push nat_eq_equiv state.accounts account all.distinct (not_first (is_open state.accounts account) AccountExists (first_of others) none);
+    distinct = IsDistinct-push nat_eq_equiv state.accounts account all.distinct (first_unmet (is_open state.accounts account) AccountExists (first_of others) none).0;
     entries = record {
       accounts = All-weaker (IsEntered state.accounts) (IsEntered (state.accounts ++ account ∷ [])) (λ entry held. any-push entry.account state.accounts account held) state.entries all.entries.accounts;
       sum = all.entries.sum;
@@ -181,10 +174,10 @@ module _ (state : ExchangeState) (kept : IsKept state) (all : IsAccountedFor sta
 
   accepts : (command : Command) → refusal_of state command ≡ None → IsAccountedFor (effect state command).1
   accepts (Open account) none = opens account none
-  accepts (Deposit account amount) none = enters (deposit_of account amount) (is_held (is_open state.accounts account) NoAccount None none) refl
+  accepts (Deposit account amount) none = enters (deposit_of account amount) (not-false (is_open state.accounts account) (first_unmet (not (is_open state.accounts account)) NoAccount None none).0) refl
   accepts (Withdraw account amount) none =
       enters (withdrawal_of account amount)
-      (is_held (is_open state.accounts account) NoAccount (if int_lt (free_in state account) (pos amount) then Some Funds else None) none) refl
+      (not-false (is_open state.accounts account) (first_unmet (not (is_open state.accounts account)) NoAccount (if int_lt (free_in state account) (pos amount) then Some Funds else None) none).0) refl
   accepts (Market market underlyings) none = record { distinct = all.distinct; entries = all.entries }
   accepts (Trade side account market kind strike price quantity count weights) none = record { distinct = all.distinct; entries = all.entries }
   accepts (Bundle side account market price quantity bundle) none = record { distinct = all.distinct; entries = all.entries }
@@ -225,7 +218,7 @@ module _ (state : Guarded) (kept : IsKept state.exchange) where
 added_elsewhere : (entry : Entry) (accounts : List ℕ) → AllByRecursion (λ y. nat_eq entry.account y ≡ false) accounts → total (λ account. amount_for account entry) accounts ≡ pos 0
 added_elsewhere entry [] apart = refl
 added_elsewhere entry (account ∷ accounts) apart =
-    ap (λ b. (if b then entry.amount else pos 0) +ℤ total (λ account. amount_for account entry) accounts) (turned entry.account account false apart.0)
+    ap (λ b. (if b then entry.amount else pos 0) +ℤ total (λ account. amount_for account entry) accounts) (nat_eq-turned entry.account account false apart.0)
     ∙ omega (arith, ints, added_elsewhere entry accounts apart.1)
 
 -- and to all, of which one is its own
@@ -239,9 +232,9 @@ added_once entry (account ∷ accounts) distinct held = by (nat_eq entry.account
     by : (own : Bool) → nat_eq entry.account account ≡ own → (own || is_open accounts entry.account) ≡ true → (is_open accounts entry.account ≡ true → rest ≡ entry.amount)
         → (if nat_eq account entry.account then entry.amount else pos 0) +ℤ rest ≡ entry.amount
     by true is held later =
-        let apart = subst (λ (k : ℕ). AllByRecursion (λ y. nat_eq k y ≡ false) accounts) (sym (same_number entry.account account is)) (IsDistinct-head nat_eq account accounts distinct) in
-        ap (λ b. (if b then entry.amount else pos 0) +ℤ rest) (turned entry.account account true is) ∙ omega (arith, ints, added_elsewhere entry accounts apart)
-    by false is held later = ap (λ b. (if b then entry.amount else pos 0) +ℤ rest) (turned entry.account account false is) ∙ omega (arith, ints, later held)
+        let apart = subst (λ (k : ℕ). AllByRecursion (λ y. nat_eq k y ≡ false) accounts) (sym (eqb-true entry.account account is)) (IsDistinct-head nat_eq account accounts distinct) in
+        ap (λ b. (if b then entry.amount else pos 0) +ℤ rest) (nat_eq-turned entry.account account true is) ∙ omega (arith, ints, added_elsewhere entry accounts apart)
+    by false is held later = ap (λ b. (if b then entry.amount else pos 0) +ℤ rest) (nat_eq-turned entry.account account false is) ∙ omega (arith, ints, later held)
 
 both_added : {A : Type 0} (v w : A → ℤ) (xs : List A) → total (λ x. v x +ℤ w x) xs ≡ total v xs +ℤ total w xs
 both_added v w [] = refl

@@ -7,7 +7,7 @@ use Rattle.std.proofs.lemmas.Bool.Decides.{nat_tests}
 use Rattle.std.proofs.lemmas.Int.{ints}
 use Rattle.std.proofs.lemmas.List.{map-append}
 use Rattle.std.proofs.lemmas.List.Elements.{All-cons, All-filter, All-head, All-nil, All-tail, filter-append}
-use Rattle.arithmetic.proofs.Tests.{int_lt-no}
+use Rattle.arithmetic.proofs.Tests.{int_lt-no, nat_eq-turned}
 use Rattle.cash_ledger.specs.declared.entry.Cause.{Cause}
 use Rattle.cash_ledger.specs.declared.entry.Cause.TheVariants.{Premium}
 use Rattle.cash_ledger.specs.Entries.{balance_of}
@@ -26,7 +26,6 @@ use Rattle.exchange_core.specs.Held.{is_held_by, is_order_of, positions_of}
 use Rattle.exchange_core.specs.Positions.{position_of, positions_in, positions_of as positions_for}
 use Rattle.exchange_core.specs.Premiums.{premium_entries, premium_transfer, premiums_of}
 use Rattle.account_need.specs.Moves.{IsFilled, OrderFill, held_by, held_of, is_some_fill, order_in, premium_got, premiums_got}
-use Rattle.secured_accounts.proofs.InOrder.{turned}
 
 -- ---- all fills
 pub all_filled : (orders : List Order) (fills : List Frac128) → All IsFill (zip orders (map fraction_of fills)) → All IsFilled (zip orders fills)
@@ -153,7 +152,7 @@ module _ (account : ℕ) (some : 1 ≤ account) where
   paid_one batch order fill filled = by (int_lt (pos 0) (fraction_of fill).numerator) refl
     where
       own : if_own order.account (premium_got (order, fill)) ≡ (if is_order_of account order then premium_got (order, fill) else pos 0)
-      own = ap (λ b. if b then premium_got (order, fill) else pos 0) (turned order.account account (is_order_of account order) refl)
+      own = ap (λ b. if b then premium_got (order, fill) else pos 0) (nat_eq-turned order.account account (is_order_of account order) refl)
 
       nothing : int_lt (pos 0) (fraction_of fill).numerator ≡ false → premium_got (order, fill) ≡ pos 0
       nothing none =

@@ -7,6 +7,8 @@ use Rattle.std.specs.Option.{option_map, option_map_or}
 use Rattle.std.proofs.lemmas.Bool.Decides.{nat_tests}
 use Rattle.std.proofs.lemmas.List.{map-append, take_more}
 use Rattle.std.proofs.lemmas.List.Elements.{All-filter, All-nil, All-weaker, filter-append}
+use Rattle.std.proofs.lemmas.Bool.{eq-eqb, eqb-true}
+use Rattle.arithmetic.proofs.Tests.{nat_eq-turned}
 use Rattle.form.specs.declared.limits.TheConstants.{MAX_UNDERLYINGS}
 use Rattle.form.specs.declared.orders.Order.{Order}
 use Rattle.order_book.specs.declared.market.MarketInfo.{MarketInfo}
@@ -15,7 +17,6 @@ use Rattle.order_book.specs.Book.{BookState, info_of, live_of, market_of, with_n
 use Rattle.order_book.specs.Kept.{IsBookKept, IsLive}
 use Rattle.order_book.specs.Markets.{MarketState}
 use Rattle.order_book.proofs.BookKept.{market_kept}
-use Rattle.order_book.proofs.MarketLists.{same_number}
 use Rattle.settlement.specs.declared.position.Position.{Position}
 use Rattle.settlement.specs.Positions.{IsHeldPosition}
 use Rattle.exchange_core.specs.ExchangeState.{ExchangeState}
@@ -31,7 +32,6 @@ use Rattle.account_need.specs.Given.{IsMarket, numbered_of, portfolio_of}
 use Rattle.account_need.specs.Prices.{IsOrderOn, IsPositionOn}
 use Rattle.account_need.proofs.Portfolios.{portfolio_is}
 use Rattle.secured_accounts.specs.Secured.{IsAccepted, has_some, numbered_in, part_in, with_placed}
-use Rattle.secured_accounts.proofs.InOrder.{turned}
 use Rattle.secured_accounts.proofs.ListsOfOne.{own_placed}
 use Rattle.secured_accounts.proofs.Placing.{keys_placed, orders_elsewhere, orders_there, underlyings_placed}
 
@@ -82,15 +82,12 @@ module _ (state : ExchangeState) (account : ℕ) where
   pub part_there : (order : NewOrder) → IsAccepted state account order → (number : ℕ) → nat_eq order.market number ≡ true
       → (number, with_live (part_in state account number) (with_number (state.book.accepted + 1) order)) ≡ numbered_in (place_effect state order).1 account number
   part_there order may number at =
-      let is = same_number order.market number at in
+      let is = eqb-true order.market number at in
       subst (λ (k : ℕ). (k, with_live (part_in state account k) (with_number (state.book.accepted + 1) order)) ≡ numbered_in (place_effect state order).1 account k) is
       (ap (λ (p : Portfolio). (order.market, p)) (sym here))
     where
-      is_same : (k : ℕ) → nat_eq k k ≡ true
-      is_same k = grind (arith, nat_tests)
-
       own : nat_eq order.account account ≡ true
-      own = ap (λ (k : ℕ). nat_eq k account) may.own ∙ is_same account
+      own = ap (λ (k : ℕ). nat_eq k account) may.own ∙ eq-eqb account account refl
 
       here : part_in (place_effect state order).1 account order.market ≡ with_live (part_in state account order.market) (with_number (state.book.accepted + 1) order)
       here =
@@ -104,7 +101,7 @@ module _ (state : ExchangeState) (account : ℕ) where
   part_apart order may number apart =
       ap (λ (p : Portfolio). (number, p))
       (sym (portfolio_is (part_in (place_effect state order).1 account number) (underlyings_in state.book number) (positions_of account number state.positions) (orders_of account number state.book)
-      (underlyings_placed state order may.accepted number) refl (orders_elsewhere state order may.accepted account number (turned order.market number false apart))))
+      (underlyings_placed state order may.accepted number) refl (orders_elsewhere state order may.accepted account number (nat_eq-turned order.market number false apart))))
 
   -- what the code finds, where it knows of an order that is placed
   module _ (placed : Option NewOrder) (may : IfSome placed (IsAccepted state account)) (order : NewOrder) (is : placed ≡ Some order) where
@@ -117,10 +114,7 @@ module _ (state : ExchangeState) (account : ℕ) where
     pub placed_there : (number : ℕ) (m more : Market) (live : Order) → order.market ≡ number → live ≡ with_number (state.book.accepted + 1) order → numbered_of m ≡ numbered_in state account number
         → numbered_of more ≡ (m.number, with_live (portfolio_of m) live) → numbered_of more ≡ numbered_in (with_placed state placed) account number
     placed_there number m more live at last found with_it =
-        with_it ∙ (λ i. ((found i).0, with_live (found i).1 (last i))) ∙ part_there order accepted number (same order.market number at) ∙ once number
-      where
-        same : (a b : ℕ) → a ≡ b → nat_eq a b ≡ true
-        same a b e = grind (arith, nat_tests)
+        with_it ∙ (λ i. ((found i).0, with_live (found i).1 (last i))) ∙ part_there order accepted number (eq-eqb order.market number at) ∙ once number
 
     pub placed_apart : (number : ℕ) (m : Market) → order.market ≢ number → numbered_of m ≡ numbered_in state account number → numbered_of m ≡ numbered_in (with_placed state placed) account number
     placed_apart number m apart found = found ∙ part_apart order accepted number (differ order.market number apart) ∙ once number

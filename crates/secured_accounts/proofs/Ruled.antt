@@ -2,9 +2,9 @@
 -- out, and so has one that is secured.
 use Rattle.std.proofs.Common.{◌≡◌, ℕ, Bool, true, false, not, ◌&&◌, ◌||◌, ◌⊎◌, inl, inr, List, [], ◌∷◌, ◌++◌, is_none, Option, Some, None, if◌then◌else◌, nat_eq, refl, sym, ap, ◌∙◌}
 use Rattle.std.specs.Option.{option_map_or}
+use Rattle.std.proofs.lemmas.Bool.{eqb-true}
 use Rattle.cash_ledger.specs.Ledger.{is_open}
 use Rattle.lists.specs.Refusals.{first_of}
-use Rattle.order_book.proofs.MarketLists.{same_number}
 use Rattle.command_text.specs.declared.command.Command.{Command}
 use Rattle.exchange_core.specs.declared.refusal.Refusal.TheVariants.{NoAccount}
 use Rattle.exchange_core.specs.ExchangeState.{ExchangeState}
@@ -35,7 +35,7 @@ module _ (secured : List ℕ) (state : ExchangeState) (command : Command) (accou
 
   pub enough_after : (risked : Option ℕ) → option_map_or (uncovered_by secured state command) risked None ≡ None → harms account risked ≡ true → is_enough (effect state command).1 account ≡ true
   enough_after None none harmed = cc
-  enough_after (Some other) none harmed = enough_by (ap (uncovered_by secured state command) (sym (same_number other account harmed)) ∙ none)
+  enough_after (Some other) none harmed = enough_by (ap (uncovered_by secured state command) (sym (eqb-true other account harmed)) ∙ none)
 
 -- ---- an account that is to be secured
 pub secured_enough : (state : ExchangeState) (account : ℕ) → first_of (secure_refusals state account) ≡ None → is_enough state account ≡ true
@@ -51,7 +51,7 @@ last_any : (account : ℕ) (secured : List ℕ) (new : ℕ) → is_secured (secu
 last_any account [] new is = by (nat_eq new account) refl is
   where
     by : (b : Bool) → nat_eq new account ≡ b → (b || false) ≡ true → (false ≡ true) ⊎ (new ≡ account)
-    by true at h = inr (same_number new account at)
+    by true at h = inr (eqb-true new account at)
     by false at h = absurd (cc)
 last_any account (other ∷ secured) new is = by (nat_eq other account) is (last_any account secured new)
   where

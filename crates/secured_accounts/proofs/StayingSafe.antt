@@ -1,6 +1,7 @@
 -- The balance of each secured account stays at or above its true need.
 use Rattle.std.proofs.Common.{◌≡◌, ℕ, ◌≤◌, Bool, true, false, [], ◌∷◌, is_some, ⊎_elim, Option, Some, None, if◌then◌else◌, refl, subst}
 use Rattle.std.specs.Option.{option_map_or}
+use Rattle.arithmetic.proofs.Tests.{nat_eq-turned}
 use Rattle.cash_ledger.specs.Entries.{balance_of}
 use Rattle.clearing.specs.Outcome.{outcome_of}
 use Rattle.clearing.proofs.Outcomes.{outcomes_are_within}
@@ -24,7 +25,6 @@ use Rattle.secured_accounts.specs.Secured.{is_enough, is_secured, risked_by, unc
 use Rattle.secured_accounts.proofs.AllMarkets.{for_all, for_own}
 use Rattle.secured_accounts.proofs.Batches.{cleared, settled}
 use Rattle.secured_accounts.proofs.Effects.{IsCovered, cancelled, deposited, listed, placed, withdrawn}
-use Rattle.secured_accounts.proofs.InOrder.{turned}
 use Rattle.secured_accounts.proofs.ToldNeeds.{told_is_enough}
 use Rattle.secured_accounts.proofs.Ruled.{enough_after, harms, secured_enough, secured_or_new}
 
@@ -34,7 +34,7 @@ module _ (account : ℕ) (some : 1 ≤ account) (state : ExchangeState) (kept : 
       → IsCovered account state → IsCovered account (effect state command).1
   effect_keeps (Open other) within prices none harmless s = s
   effect_keeps (Deposit other amount) within prices none harmless s = deposited account state other amount s
-  effect_keeps (Withdraw other amount) within prices none harmless s = withdrawn account state other amount (turned other account false harmless) s
+  effect_keeps (Withdraw other amount) within prices none harmless s = withdrawn account state other amount (nat_eq-turned other account false harmless) s
   effect_keeps (Market market underlyings) within prices none harmless s = listed account state kept market underlyings none s
   effect_keeps (Trade side other market kind strike price quantity count weights) within prices none harmless s =
       placed account state kept (order_by side other market kind strike price quantity count weights) none harmless s

@@ -1,8 +1,7 @@
 -- What is told of an account, by what the code finds of it.
-use Rattle.std.proofs.Common.{◌≡◌, ℕ, Bool, true, false, ◌&&◌, List, is_none, Option, Some, None, if◌then◌else◌, ℤ, pos, neg_ℤ, ◌+ℤ◌, ◌-ℤ◌, nat_eq, arith, refl, sym, ap, ◌∙◌}
+use Rattle.std.proofs.Common.{◌≡◌, ℕ, Bool, true, false, ◌&&◌, List, is_none, Option, Some, None, if◌then◌else◌, ℤ, pos, neg_ℤ, ◌+ℤ◌, ◌-ℤ◌, arith, refl, sym, ap, ◌∙◌}
 use Rattle.std.specs.Option.{option_map_or}
-use Rattle.std.proofs.lemmas.Bool.{and_parts}
-use Rattle.std.proofs.lemmas.Bool.Decides.{nat_tests}
+use Rattle.std.proofs.lemmas.Bool.{and_parts, eq-eqb}
 use Rattle.std.proofs.lemmas.Int.{ints}
 use Rattle.cash_ledger.specs.Entries.{amount_for, balance_of, withdrawal_of}
 use Rattle.cash_ledger.specs.Ledger.{is_open}
@@ -51,14 +50,11 @@ enough_found state account markets balance is told = λ i. can_pay (told i) (nee
 less_paid : (state : ExchangeState) (account amount : ℕ) → balance_of account (withdraw_effect state account amount).1.entries ≡ balance_of account state.entries -ℤ pos amount
 less_paid state account amount =
     let pushed = balance_of-push account state.entries (withdrawal_of account amount) in
-    let own : amount_for account (withdrawal_of account amount) ≡ neg_ℤ (pos amount) = ap (λ b. if b then neg_ℤ (pos amount) else pos 0) (is_same account) in
+    let own : amount_for account (withdrawal_of account amount) ≡ neg_ℤ (pos amount) = ap (λ b. if b then neg_ℤ (pos amount) else pos 0) (eq-eqb account account refl) in
     pushed ∙ ap (λ (x : ℤ). balance_of account state.entries +ℤ x) own ∙ minus (balance_of account state.entries)
   where
     minus : (b : ℤ) → b +ℤ neg_ℤ (pos amount) ≡ b -ℤ pos amount
     minus b = omega (arith, ints)
-
-    is_same : (k : ℕ) → nat_eq k k ≡ true
-    is_same k = grind (arith, nat_tests)
 
 pub enough_less : (state : ExchangeState) (account amount : ℕ) (markets : List Numbered) (balance : ℤ) → markets ≡ account_of state account → balance ≡ balance_of account state.entries
     → may_withdraw markets balance amount ≡ is_enough (withdraw_effect state account amount).1 account

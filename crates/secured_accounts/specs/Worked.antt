@@ -1,5 +1,6 @@
 -- Worked rows: what is kept from a small exchange, and what accounts need in it.
 use Rattle.std.specs.Prelude.{ℕ, ◌≡◌, false, true, List, [], ◌∷◌, pos, None, Some, Ok}
+use Rattle.portfolio_margin.specs.Worked.{position_of}
 use Rattle.cash_ledger.specs.declared.entry.Cause.TheVariants.{Deposit as deposited}
 use Rattle.cash_ledger.specs.Entries.{balance_of}
 use Rattle.exact_num.specs.Fraction.{whole}
@@ -16,7 +17,7 @@ use Rattle.exchange_core.specs.declared.refusal.Refusal.TheVariants.{NoAccount}
 use Rattle.exchange_core.specs.ExchangeState.{ExchangeState}
 use Rattle.exchange_core.specs.Step.{cleared_with}
 use Rattle.exchange_core.specs.Worked.{after, at_price}
-use Rattle.account_need.specs.Worked.{call_10, held, spread}
+use Rattle.account_need.specs.Worked.{call_10, spread}
 use Rattle.secured_accounts.specs.declared.refusal.SecuringRefusal.TheVariants.{Exchange, Uncovered}
 use Rattle.secured_accounts.specs.Refusals.{need_refusals, secure_refusals}
 use Rattle.secured_accounts.specs.Secured.{is_secured, need_in, uncovered, with_secured}
@@ -71,8 +72,8 @@ pub record OffersByHand : Type 0 where
   pub call_offered : uncovered second (having 1000 []) (one Sell 2 Call 10 5) ≡ Some (Ok 999999987)
   pub spread_offered : uncovered second (having 1000 []) (Bundle Sell 2 1 4 1 spread) ≡ None
   -- what is held is offered at 6
-  pub closing : uncovered second (having 3 (held Buy call_10 (whole (pos 1)) ∷ [])) (one Sell 2 Call 10 6) ≡ None
-  pub closing_short : uncovered second (having 2 (held Buy call_10 (whole (pos 1)) ∷ [])) (one Sell 2 Call 10 6) ≡ Some (Ok 3)
+  pub closing : uncovered second (having 3 (position_of Buy call_10 (whole (pos 1)) ∷ [])) (one Sell 2 Call 10 6) ≡ None
+  pub closing_short : uncovered second (having 2 (position_of Buy call_10 (whole (pos 1)) ∷ [])) (one Sell 2 Call 10 6) ≡ Some (Ok 3)
 
 pub record RulesByHand : Type 0 where
   -- who is not secured is let go, and so is all else of one who is

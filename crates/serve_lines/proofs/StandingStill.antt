@@ -13,8 +13,8 @@ use Rattle.exchange_core.specs.ExchangeState.{ExchangeState}
 use Rattle.exchange_core.specs.Refusals.{by_book, refusal_of}
 use Rattle.exchange_core.specs.Step.{step}
 use Rattle.exchange_core.specs.declared.refusal.Refusal.{Refusal}
-use Rattle.guarded_lines.specs.Replies.{plain_reply_to}
-use Rattle.guarded_lines.specs.Withdrawals.{uncovered_by}
+use Rattle.proposal_lines.specs.GuardedReplies.{plain_reply_to}
+use Rattle.proposal_lines.specs.Withdrawals.{uncovered_by}
 use Rattle.proposal_text.specs.declared.needs.Need.{Need}
 use Rattle.lists.specs.Refusals.{first_of}
 use Rattle.order_book.specs.Book.{live_of}

@@ -1,4 +1,4 @@
--- What is answered to a line of `serve`, and what is written for it.
+-- What is answered to a line where markets have phases, and what is written for it.
 use Rattle.std.specs.Prelude.{ℕ, List, Option, None, Result, Ok, true, if◌then◌else◌}
 use Rattle.command_text.specs.declared.asked.Fault.{Fault}
 use Rattle.command_text.specs.declared.command.Command.{Command as OneCommand}

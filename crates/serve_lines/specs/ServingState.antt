@@ -1,4 +1,4 @@
--- What a contract sees of an exchange that answers all lines of `serve`.
+-- What a contract sees of an exchange whose markets have phases.
 use Rattle.std.specs.Prelude.{ℕ, List, []}
 use Rattle.proposal_lines.specs.ProposingState.{ProposingState, empty_state}
 

@@ -12,7 +12,7 @@ use Rattle.proposal_lines.specs.KeptByMarket.{KeptProposals}
 use Rattle.proposal_lines.specs.LaterClears.{IsNoClearOf}
 use Rattle.proposal_lines.specs.ProposingState.{state_of}
 use Rattle.proposal_lines.proofs.LaterClears.{IsNoWorseIn, IsNoWorseFor, StepsAlike, lowers_nothing}
-use Rattle.serve_lines.specs.ServingState.{ServingState}
+use Rattle.secured_lines.specs.ServingState.{ServingState}
 use Rattle.secured_lines.specs.Output.{secured_line}
 use Rattle.secured_lines.specs.SecuredState.{SecuredState, exchange_in, with_opened, with_proposing}
 use Rattle.secured_lines.proofs.Lowering as lines

@@ -113,4 +113,4 @@ are_paying state paid secured =
 
 pub members_can_pay : MembersCanPay
 members_can_pay bodies =
-    are_paying (after_all 1 empty_members bodies) (all_paid 1 empty_members bodies none_paid) (members_are_secured 1 empty_members bodies none_secured)
+    are_paying (after_all 1 empty_members bodies) (all_paid 1 empty_members bodies none_paid) (members_are_secured.members 1 empty_members bodies none_secured)

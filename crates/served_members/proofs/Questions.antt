@@ -13,7 +13,7 @@ use Rattle.proposal_text.specs.declared.replies.ServedReply.{ServedReply}
 use Rattle.proposal_lines.specs.Answers.{TellsAsked, TellsTrial}
 use Rattle.proposal_lines.specs.Asked.{in_form}
 use Rattle.proposal_lines.specs.Laws.{IsSound}
-use Rattle.quote_lines.specs.Laws.{TellsPrices, TellsQuote}
+use Rattle.proposal_lines.specs.QuoteLaws.{TellsPrices, TellsQuote}
 use Rattle.secured_lines.specs.Asked.{asked_reply, said_asks, secured_asks}
 use Rattle.secured_lines.specs.Output.{secured_line, secured_reply, secured_said}
 use Rattle.secured_lines.specs.SecuredState.{SecuredState}

@@ -14,8 +14,8 @@ use Rattle.exchange_core.specs.ExchangeState.{ExchangeState}
 use Rattle.exchange_core.specs.Refusals.{refusal_of}
 use Rattle.exchange_core.specs.Step.{effect, refusal_effect, step}
 use Rattle.exchange_core.specs.declared.refusal.Refusal.{Refusal}
-use Rattle.guarded_lines.specs.Replies.{plain_reply_to}
-use Rattle.guarded_lines.specs.Withdrawals.{uncovered_by}
+use Rattle.proposal_lines.specs.GuardedReplies.{plain_reply_to}
+use Rattle.proposal_lines.specs.Withdrawals.{uncovered_by}
 use Rattle.proposal_text.specs.declared.needs.Need.{Need}
 use Rattle.proposal_text.specs.declared.replies.BoundedOutcome.{BoundedOutcome}
 use Rattle.proposal_text.specs.declared.replies.ProposalReply.TheVariants as told
@@ -27,9 +27,9 @@ use Rattle.proposal_lines.specs.Reads as reads
 use Rattle.proposal_text.specs.declared.replies.ServedReply.{ServedReply}
 use Rattle.proposal_text.specs.declared.replies.ServedReply.TheVariants.{Told}
 use Rattle.proposal_lines.proofs.Clearing.{better_is}
-use Rattle.serve_lines.specs.Output.{handed_on, serving_reply}
-use Rattle.serve_lines.specs.Phased.{exchange_of}
-use Rattle.serve_lines.specs.ServingState.{ServingState}
+use Rattle.secured_lines.specs.ServeOutput.{handed_on, serving_reply}
+use Rattle.secured_lines.specs.Phased.{exchange_of}
+use Rattle.secured_lines.specs.ServingState.{ServingState}
 use Rattle.secured_lines.specs.Output.{secured_reply, secured_said}
 use Rattle.secured_lines.specs.SecuredState.{SecuredState, exchange_in, with_opened}
 use Rattle.secured_lines.proofs.LineKinds.{by_answer, by_kind}

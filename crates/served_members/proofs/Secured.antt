@@ -1,17 +1,15 @@
 -- Each account of a session that is not the operator's is secured, and no account comes to be secured
 -- against its owner's will.
-use Rattle.std.proofs.Common.{◌≡◌, ℕ, ◌+◌, Bool, true, false, ◌||◌, not, cond, ◌⊎◌, inl, inr, ⊎_elim, List, [], ◌∷◌, ◌++◌, nat_eq, is_some, Option, Some, None, Result, Ok, if◌then◌else◌, refl, sym, subst, arith}
+use Rattle.std.proofs.Common.{◌≡◌, ℕ, ◌+◌, Bool, true, false, ◌||◌, not, ◌⊎◌, inl, inr, ⊎_elim, List, [], ◌∷◌, ◌++◌, nat_eq, Option, Some, None, Result, Ok, if◌then◌else◌, refl, sym, subst, arith}
 use Rattle.std.specs.Option.{option_map_or}
 use Rattle.std.proofs.lemmas.Bool.Decides.{nat_tests}
 use Rattle.command_text.specs.declared.asked.Fault.{Fault}
-use Rattle.command_text.specs.declared.command.Command.TheVariants.{Open}
 use Rattle.command_text.specs.declared.requests.Request.{Request}
 use Rattle.command_text.specs.declared.requests.Request.TheVariants as asks
 use Rattle.command_text.specs.declared.words.TheConstants.{SERVED}
 use Rattle.command_text.specs.Said.{said_in}
 use Rattle.exchange_core.specs.ExchangeState.{ExchangeState}
 use Rattle.lists.specs.Refusals.{first_of}
-use Rattle.order_book.proofs.MarketLists.{same_number}
 use Rattle.members.specs.Laws.{IsOwner}
 use Rattle.members.specs.Members.{MembersState, Owned, is_allowed, is_over, owner_of, owns, with_owner}
 use Rattle.members.specs.Rule.{is_operator}
@@ -29,10 +27,11 @@ use Rattle.secured_lines.proofs.Secured.{more_secured, said_stays}
 use Rattle.member_lines.specs.Aims.{aim_of_said, opened_by}
 use Rattle.member_lines.specs.Laws.{SaidBody, refusal_of_said, rule_refusal}
 use Rattle.member_lines.specs.Lines.{noted, secured_for}
-use Rattle.served_members.specs.Laws.{AreSecured, MembersAreSecured, OwnedAreSecured, OwnedByOpening, SecuredByWill, Secures, after_body}
+use Rattle.served_members.specs.Laws.{AreSecured, MembersAreSecured, OwnedAreSecured, SecuredByWill, Secures, after_all, after_body}
 use Rattle.served_members.specs.Members.{ServedMembers}
-use Rattle.member_lines.proofs.Opening.{is_opening, noted_owners, owners_then}
+use Rattle.member_lines.proofs.Opening.{noted_owners, owners_then}
 use Rattle.served_members.proofs.Bodies.{by_body, by_opened, carried, line_state, opened_in}
+use Rattle.served_members.proofs.Owners.{is_opened, owned}
 
 -- ---- an account that is secured as it is opened
 last_secured : (account : ℕ) (secured : List ℕ) → is_secured (secured ++ account ∷ []) account ≡ true
@@ -49,32 +48,6 @@ is_there account secured = by (is_secured secured account) refl
     by : (there : Bool) → is_secured secured account ≡ there → is_secured (if there then secured else secured ++ account ∷ []) account ≡ true
     by true is = is
     by false is = last_secured account secured
-
--- ---- its owner
--- an account that has an owner had it, or is the new one
-pushed : (owners : Owned) (new session account owner : ℕ) → owner_of (owners ++ (new, session) ∷ []) account ≡ Some owner
-    → (owner_of owners account ≡ Some owner) ⊎ ((account ≡ new) × (session ≡ owner))
-pushed [] new session account owner = by (nat_eq account new) refl
-  where
-    by : (b : Bool) → nat_eq account new ≡ b → cond b (Some session) None ≡ Some owner → (None ≡ Some owner) ⊎ ((account ≡ new) × (session ≡ owner))
-    by true at is = let same : session ≡ owner = cc in inr (same_number account new at, same)
-    by false at is = inl is
-pushed (o ∷ owners) new session account owner = by (nat_eq account o.0) (pushed owners new session account owner)
-  where
-    by : (b : Bool) → (owner_of (owners ++ (new, session) ∷ []) account ≡ Some owner → (owner_of owners account ≡ Some owner) ⊎ ((account ≡ new) × (session ≡ owner)))
-        → cond b (Some o.1) (owner_of (owners ++ (new, session) ∷ []) account) ≡ Some owner
-        → (cond b (Some o.1) (owner_of owners account) ≡ Some owner) ⊎ ((account ≡ new) × (session ≡ owner))
-    by true later is = inl is
-    by false later is = later is
-
-owned : (owners : Owned) (new session account owner : ℕ) → owner_of (with_owner owners new session) account ≡ Some owner
-    → (owner_of owners account ≡ Some owner) ⊎ ((account ≡ new) × (session ≡ owner))
-owned owners new session account owner = by (is_some (owner_of owners new))
-  where
-    by : (there : Bool) → owner_of (if there then owners else owners ++ (new, session) ∷ []) account ≡ Some owner
-        → (owner_of owners account ≡ Some owner) ⊎ ((account ≡ new) × (session ≡ owner))
-    by true is = inl is
-    by false is = pushed owners new session account owner is
 
 -- ---- what is noted
 -- more accounts are secured
@@ -126,34 +99,26 @@ one_secured number state said all =
     (λ account own. said_stays account state.served said.body own (said_in SERVED said.body)) all)
     (exchange_in state.served) (said_in SERVED said.body))
 
+all_secured : (number : ℕ) (state : ServedMembers) (bodies : List SaidBody) → AreSecured state → AreSecured (after_all number state bodies)
+all_secured number state [] all = all
+all_secured number state (said ∷ more) all = all_secured (number + 1) (after_body number state said) more (one_secured number state said all)
+
+-- what is secured stays so
+module _ (account : ℕ) where
+  one_stays : (number : ℕ) (state : ServedMembers) (said : SaidBody) → is_secured state.served.secured account ≡ true → is_secured (after_body number state said).served.secured account ≡ true
+  one_stays number state said own =
+      let line = line_state number state said in
+      let left = said_stays account state.served said.body own (said_in SERVED said.body) in
+      by_body number state said (λ next. is_secured next.served.secured account ≡ true) own
+      (λ through. by_opened (λ (s : SecuredState). is_secured s.secured account ≡ true) said.session line left (opened_in number state said)
+      (λ new is member. more_secured account new line.secured left))
+
+  all_stay : (number : ℕ) (state : ServedMembers) (bodies : List SaidBody) → is_secured state.served.secured account ≡ true → is_secured (after_all number state bodies).served.secured account ≡ true
+  all_stay number state [] own = own
+  all_stay number state (said ∷ more) own = all_stay (number + 1) (after_body number state said) more (one_stays number state said own)
+
 pub members_are_secured : MembersAreSecured
-members_are_secured number state [] all = all
-members_are_secured number state (said ∷ more) all = members_are_secured (number + 1) (after_body number state said) more (one_secured number state said all)
-
--- ---- by its opening
-module _ (members : MembersState) (session : ℕ) (before after : ExchangeState) (r : Result Request Fault) where
-  owned_then : (account owner : ℕ) (opened : Option ℕ) → opened_by after (aim_of_said before r) ≡ opened → owner_of (owners_then members.owners session opened) account ≡ Some owner
-      → (owner_of members.owners account ≡ Some owner) ⊎ ((r ≡ Ok (asks.Command (Open account))) × (session ≡ owner))
-  owned_then account owner None is own = inl own
-  owned_then account owner (Some new) is own =
-      ⊎_elim (λ (had : owner_of members.owners account ≡ Some owner). inl had)
-      (λ (one : (account ≡ new) × (session ≡ owner)).
-      inr (subst (λ (n : ℕ). r ≡ Ok (asks.Command (Open n))) (sym one.0) (is_opening before after new r is).says, one.1))
-      (owned members.owners new session account owner own)
-
-  noted_owned : (account owner : ℕ) → owner_of (noted members session after (aim_of_said before r)).owners account ≡ Some owner
-      → (owner_of members.owners account ≡ Some owner) ⊎ ((r ≡ Ok (asks.Command (Open account))) × (session ≡ owner))
-  noted_owned account owner own =
-      owned_then account owner (opened_by after (aim_of_said before r)) refl
-      (subst (λ (owners : Owned). owner_of owners account ≡ Some owner) (noted_owners members session after (aim_of_said before r)) own)
-
-pub owned_by_opening : OwnedByOpening
-owned_by_opening number state said account owner =
-    by_body number state said
-    (λ next. owner_of next.members.owners account ≡ Some owner
-    → (owner_of state.members.owners account ≡ Some owner) ⊎ ((said_in SERVED said.body ≡ Ok (asks.Command (Open account))) × (said.session ≡ owner)))
-    (λ own. inl own)
-    (λ through. noted_owned state.members said.session (exchange_in state.served) (exchange_in (line_state number state said)) (said_in SERVED said.body) account owner)
+members_are_secured = record { members = all_secured; all = λ number state bodies account own. all_stay account number state bodies own }
 
 -- ---- by whose will
 -- the rule allows what it does not refuse
@@ -163,7 +128,7 @@ not_refused false over none = cc
 
 module _ (number : ℕ) (state : ServedMembers) (said : SaidBody) (account : ℕ) where
   abbrev Comes : SecuredState → Type 0
-  Comes after = is_secured after.secured account ≡ true → (is_secured state.served.secured account ≡ true) ⊎ Secures state said account
+  Comes after = is_secured after.secured account ≡ true → (is_secured state.served.secured account ≡ true) ⊎ Secures state (carried number state said) said account
 
   -- a line of its owner
   secure_comes : (other : ℕ) → said_in SERVED said.body ≡ Ok (asks.Secure other) → refusal_of_said exchange_in secured_said with_opened state said.session (Ok (asks.Secure other)) ≡ None
@@ -174,7 +139,7 @@ module _ (number : ℕ) (state : ServedMembers) (said : SaidBody) (account : ℕ
       allowed =
           not_refused (is_allowed state.members.owners said.session (asks.Secure other)) (is_over state.members (exchange_in state.served) said.session (asks.Secure other)) through
 
-      new : other ≡ account → Secures state said account
+      new : other ≡ account → Secures state (carried number state said) said account
       new is = inl (
         subst (λ (n : ℕ). said_in SERVED said.body ≡ Ok (asks.Secure n)) is says,
         subst (λ (n : ℕ). IsOwner state.members.owners said.session n) is (owner_is state.members.owners said.session other allowed),
@@ -182,7 +147,7 @@ module _ (number : ℕ) (state : ServedMembers) (said : SaidBody) (account : ℕ
 
       by : (refused : Option SecuringRefusal)
           → is_secured (option_map_or (λ refusal. state.served.secured) refused (with_secured state.served.secured other)) account ≡ true
-          → (is_secured state.served.secured account ≡ true) ⊎ Secures state said account
+          → (is_secured state.served.secured account ≡ true) ⊎ Secures state (carried number state said) said account
       by (Some refusal) own = inl own
       by None own = ⊎_elim (λ before. inl before) (λ (is : other ≡ account). inr (new is)) (secured_or_new account state.served.secured other own)
 
@@ -200,10 +165,11 @@ module _ (number : ℕ) (state : ServedMembers) (said : SaidBody) (account : ℕ
       let left = said_comes (said_in SERVED said.body) refl through in
       by_opened Comes said.session line left (opened_in number state said)
       (λ new is member own.
-      let opening = is_opening (exchange_in state.served) (exchange_in line) new (said_in SERVED said.body) is in
-      ⊎_elim left (λ (same : new ≡ account). inr (inr (subst (λ (n : ℕ). said_in SERVED said.body ≡ Ok (asks.Command (Open n))) same opening.says, member)))
+      ⊎_elim left (λ (same : new ≡ account). inr (inr (is_opened number state said account (subst (λ (n : ℕ). opened_in number state said ≡ Some n) same is), member)))
       (secured_or_new account line.secured new own))
 
 pub secured_by_will : SecuredByWill
 secured_by_will number state said account =
-    by_body number state said (λ next. Comes number state said account next.served) (λ own. inl own) (carried_comes number state said account)
+    by_body number state said
+    (λ next. is_secured next.served.secured account ≡ true → (is_secured state.served.secured account ≡ true) ⊎ Secures state next said account)
+    (λ own. inl own) (carried_comes number state said account)

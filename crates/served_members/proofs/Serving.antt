@@ -18,8 +18,8 @@ use Rattle.secured_lines.specs.Output.{secured_line, secured_said}
 use Rattle.secured_lines.specs.SecuredState.{SecuredState, empty_secured, exchange_in, with_opened}
 use Rattle.secured_lines.proofs.ClosedBest.{IsLeft, LinesLeave, LinesSound, lines_leave, uses_the_best_of_closed}
 use Rattle.secured_lines.proofs.Telling.{secured_told}
-use Rattle.serve_lines.specs.Phased.{exchange_of}
-use Rattle.serve_lines.specs.ServingState.{ServingState}
+use Rattle.secured_lines.specs.Phased.{exchange_of}
+use Rattle.secured_lines.specs.ServingState.{ServingState}
 use Rattle.member_lines.specs.Aims.{aim_of_said, opened_by}
 use Rattle.member_lines.specs.Laws.{LeavesAll}
 use Rattle.member_lines.specs.Lines.{free_said, secured_for}

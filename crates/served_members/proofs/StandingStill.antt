@@ -6,7 +6,7 @@ use Rattle.exchange_lines.specs.LineSteps.{InputLine}
 use Rattle.secured_lines.specs.SecuredState.{SecuredState}
 use Rattle.secured_lines.proofs.StandingStill as lines
 use Rattle.secured_lines.proofs.Telling.{secured_sound}
-use Rattle.serve_lines.specs.Laws.{phased_of}
+use Rattle.secured_lines.specs.ServeLaws.{phased_of}
 use Rattle.member_lines.specs.Laws.{SaidBody}
 use Rattle.served_members.specs.Laws.{AreMeanwhile, ClosedMarketsStandStill, after_body}
 use Rattle.served_members.specs.Members.{IsSoundServed, ServedMembers}

@@ -1,6 +1,7 @@
 -- An account that is not open has nothing, whatever lines come: so it may be secured as it is opened.
 use Rattle.std.proofs.Common.{◌≡◌, ◌≤◌, ℕ, Bool, true, false, ⊎_elim, is_none, is_some, nat_eq, Option, Some, None, if◌then◌else◌, refl, sym, ap, subst}
 use Rattle.std.specs.Option.{option_map_or}
+use Rattle.std.proofs.lemmas.Bool.{eqb-true}
 use Rattle.account_need.specs.Account.{Need}
 use Rattle.cash_ledger.specs.Entries.{balance_of}
 use Rattle.cash_ledger.specs.Ledger.{is_open}
@@ -15,7 +16,6 @@ use Rattle.exchange_core.specs.Refusals.{refusal_of}
 use Rattle.exchange_core.specs.Step.{effect, refusal_effect, step}
 use Rattle.exchange_core.proofs.LiveAccounts.{any-push}
 use Rattle.exchange_lines.specs.LineSteps.{InputLine}
-use Rattle.order_book.proofs.MarketLists.{same_number}
 use Rattle.proposal_lines.specs.Laws.{IsSound}
 use Rattle.secured_accounts.specs.Laws.{Asked, Charged, Event, Guarded, HasPrices, IsSafe, MayCome, Securing, after_event, guarded}
 use Rattle.secured_accounts.specs.Secured.{risked_by, uncovered}
@@ -42,7 +42,7 @@ module _ (account : ℕ) (state : ExchangeState) (closed : is_open state.account
       not_both opened = cc
 
       by : (b : Bool) → nat_eq other account ≡ b → b ≡ false
-      by true at = absurd (not_both (subst (λ (n : ℕ). is_open state.accounts n ≡ true) (same_number other account at) opened))
+      by true at = absurd (not_both (subst (λ (n : ℕ). is_open state.accounts n ≡ true) (eqb-true other account at) opened))
       by false at = refl
 
   closed_harmless : (command : Command) → refusal_of state command ≡ None → harms account (risked_by command) ≡ false
@@ -132,7 +132,7 @@ module _ (state : SecuredState) (line : InputLine) (sound : IsSound state.servin
       (λ (one : IsEvent state line sound after). subst (λ (g : Guarded). IsSafe g.exchange account) (sym one.does)
       (event_safe (guarded_in state) sound.kept account closed safe one.event one.may)) (line_comes state line sound)
 
-  line_open : (account : ℕ) → is_open (exchange_in state).accounts account ≡ true → is_open (exchange_in after).accounts account ≡ true
+  pub line_open : (account : ℕ) → is_open (exchange_in state).accounts account ≡ true → is_open (exchange_in after).accounts account ≡ true
   line_open account is =
       ⊎_elim (λ (same : guarded_in after ≡ guarded_in state). subst (λ (g : Guarded). is_open g.exchange.accounts account ≡ true) (sym same) is)
       (λ (one : IsEvent state line sound after). subst (λ (g : Guarded). is_open g.exchange.accounts account ≡ true) (sym one.does)

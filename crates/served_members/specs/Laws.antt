@@ -17,7 +17,7 @@ use Rattle.secured_accounts.specs.Secured.{is_secured}
 use Rattle.secured_lines.specs.Laws.{guarded_in}
 use Rattle.secured_lines.specs.Output.{secured_said}
 use Rattle.secured_lines.specs.SecuredState.{exchange_in, with_opened}
-use Rattle.serve_lines.specs.Laws.{ended_by_said, phased_of}
+use Rattle.secured_lines.specs.ServeLaws.{ended_by_said, phased_of}
 use Rattle.session_laws.specs.Laws.{ToldOnce}
 use Rattle.member_lines.specs.Laws.{LinesMoveByRule, LiveOrdersStayFew, OwnersAreKept, QuotasAreKept, SaidBody, after_bodies, after_body as behind, rule_refusal}
 use Rattle.served_members.specs.Members.{IsSoundServed, ServedMembers, empty_members, member_body}
@@ -49,11 +49,23 @@ abbrev pub members_after : List SaidBody → ServedMembers
 members_after bodies = after_all 1 empty_members bodies
 
 -- ---- owners
--- the owner of an account is the session that opened it
-abbrev pub OwnedByOpening : Type 0
-OwnedByOpening =
-    (number : ℕ) (state : ServedMembers) (said : SaidBody) (account owner : ℕ) → owner_of (after_body number state said).members.owners account ≡ Some owner
-    → (owner_of state.members.owners account ≡ Some owner) ⊎ ((said_in SERVED said.body ≡ Ok (asks.Command (Open account))) × (said.session ≡ owner))
+-- the body opens the account: it says so, and the account was not open before and is now
+pub record IsOpened (before after : ServedMembers) (said : SaidBody) (account : ℕ) : Type 0 where
+  pub says : said_in SERVED said.body ≡ Ok (asks.Command (Open account))
+  pub closed : is_open (exchange_in before.served).accounts account ≡ false
+  pub opened : is_open (exchange_in after.served).accounts account ≡ true
+
+-- an account that has an owner is open
+abbrev pub OwnedAreOpen : ServedMembers → Type 0
+OwnedAreOpen state = (account owner : ℕ) → owner_of state.members.owners account ≡ Some owner → is_open (exchange_in state.served).accounts account ≡ true
+
+-- the owner of an account is the session that opened it, and no other
+pub record OwnedByOpening : Type 0 where
+  pub opened : (number : ℕ) (state : ServedMembers) (said : SaidBody) (account owner : ℕ) → owner_of (after_body number state said).members.owners account ≡ Some owner
+      → (owner_of state.members.owners account ≡ Some owner) ⊎ (IsOpened state (after_body number state said) said account × (said.session ≡ owner))
+  pub owned : (number : ℕ) (state : ServedMembers) (said : SaidBody) (account : ℕ) → OwnedAreOpen state → IsOpened state (after_body number state said) said account
+      → owner_of (after_body number state said).members.owners account ≡ Some said.session
+  pub are_open : (number : ℕ) (state : ServedMembers) (said : SaidBody) → IsSoundServed state.served → OwnedAreOpen state → OwnedAreOpen (after_body number state said)
 
 -- ---- secured accounts
 -- each account of a session that is not the operator's is secured
@@ -64,22 +76,24 @@ OwnedAreSecured owners secured =
 abbrev pub AreSecured : ServedMembers → Type 0
 AreSecured state = OwnedAreSecured state.members.owners state.served.secured
 
--- and stays so, from its opening
-abbrev pub MembersAreSecured : Type 0
-MembersAreSecured = (number : ℕ) (state : ServedMembers) (bodies : List SaidBody) → AreSecured state → AreSecured (after_all number state bodies)
+-- and stays so, from its opening; and so does whatever account is secured
+pub record MembersAreSecured : Type 0 where
+  pub members : (number : ℕ) (state : ServedMembers) (bodies : List SaidBody) → AreSecured state → AreSecured (after_all number state bodies)
+  pub all : (number : ℕ) (state : ServedMembers) (bodies : List SaidBody) (account : ℕ) → is_secured state.served.secured account ≡ true
+      → is_secured (after_all number state bodies).served.secured account ≡ true
 
 -- the owner of an account says that it is to be secured, or a session opens it that is not the
 -- operator's
-abbrev pub Secures : ServedMembers → SaidBody → ℕ → Type 0
-Secures state said account =
-    ((said_in SERVED said.body ≡ Ok (asks.Secure account)) × IsOwner state.members.owners said.session account)
-    ⊎ ((said_in SERVED said.body ≡ Ok (asks.Command (Open account))) × (is_operator said.session ≡ false))
+abbrev pub Secures : ServedMembers → ServedMembers → SaidBody → ℕ → Type 0
+Secures before after said account =
+    ((said_in SERVED said.body ≡ Ok (asks.Secure account)) × IsOwner before.members.owners said.session account)
+    ⊎ (IsOpened before after said account × (is_operator said.session ≡ false))
 
 -- by nothing else an account comes to be secured
 abbrev pub SecuredByWill : Type 0
 SecuredByWill =
     (number : ℕ) (state : ServedMembers) (said : SaidBody) (account : ℕ) → is_secured (after_body number state said).served.secured account ≡ true
-    → (is_secured state.served.secured account ≡ true) ⊎ Secures state said account
+    → (is_secured state.served.secured account ≡ true) ⊎ Secures state (after_body number state said) said account
 
 -- ---- what they can pay
 -- the balance of each secured account is at or above its true need; so no account of a session that

@@ -6,7 +6,7 @@ use Rattle.cash_ledger.specs.Ledger.{is_open}
 use Rattle.exchange_lines.specs.LineSteps.{InputLine, input_lines}
 use Rattle.secured_accounts.specs.Laws.{AllSecured, CanPay}
 use Rattle.secured_accounts.specs.Secured.{is_secured}
-use Rattle.serve_lines.specs.Laws.{phased_of}
+use Rattle.secured_lines.specs.ServeLaws.{phased_of}
 use Rattle.secured_lines.specs.Laws.{guarded_in, state_by_lines}
 use Rattle.secured_lines.specs.Output.{secured_output}
 use Rattle.secured_lines.specs.Promises.{AreMeanwhile, TellSecured}

@@ -1,10 +1,9 @@
 -- What holds at each body that sessions say, one after another, from the first on.
 use Rattle.std.specs.Prelude.{ℕ, ◌≡◌, ◌+◌, ◌⊎◌, true, false, List, ◌∷◌, ◌++◌, length, Some, Ok}
+use Rattle.secured_accounts.specs.Secured.{is_secured}
 use Rattle.auction_phases.specs.Laws.{StandsStill}
 use Rattle.auction_phases.specs.Phases.{is_closed}
-use Rattle.command_text.specs.declared.command.Command.TheVariants.{Open}
 use Rattle.command_text.specs.declared.requests.Request.{Request}
-use Rattle.command_text.specs.declared.requests.Request.TheVariants as asks
 use Rattle.command_text.specs.declared.words.TheConstants.{SERVED}
 use Rattle.command_text.specs.Said.{said_in}
 use Rattle.members.specs.Laws.{HasFewLive, IsWithinQuota}
@@ -14,11 +13,11 @@ use Rattle.members.specs.declared.refusal.MemberRefusal.{MemberRefusal}
 use Rattle.members.specs.declared.refusal.MemberRefusal.TheVariants.{NotAllowed}
 use Rattle.secured_lines.specs.Output.{secured_said}
 use Rattle.secured_lines.specs.SecuredState.{exchange_in, with_opened}
-use Rattle.serve_lines.specs.Laws.{phased_of}
+use Rattle.secured_lines.specs.ServeLaws.{phased_of}
 use Rattle.member_lines.specs.Laws.{SaidBody, managed_in, rule_refusal, tells_of}
 use Rattle.member_lines.specs.Refused.{refused_text}
 use Rattle.served_members.specs.Asking.{IsToldAsNext}
-use Rattle.served_members.specs.Laws.{AreMeanwhile, after_all, after_body, members_after}
+use Rattle.served_members.specs.Laws.{AreMeanwhile, IsOpened, after_all, after_body, members_after}
 use Rattle.served_members.specs.Members.{ServedMembers, member_body}
 
 -- ---- quotas
@@ -36,9 +35,10 @@ pub record IsRuled (number : ℕ) (state : ServedMembers) (said : SaidBody) : Ty
   -- of an account whose owner it is not a session that is not the operator's is told nothing
   pub others : (request : Request) (account : ℕ) → owns state.members.owners said.session account ≡ false → is_operator said.session ≡ false
       → tells_of request ≡ Some account → said_in SERVED said.body ≡ Ok request → member_body said.session number state said.body ≡ (refused_text number NotAllowed, state)
-  -- the owner of an account is the session that opened it
+  -- the owner of an account is the session that opened it, and no other
   pub opened : (account owner : ℕ) → owner_of (after_body number state said).members.owners account ≡ Some owner
-      → (owner_of state.members.owners account ≡ Some owner) ⊎ ((said_in SERVED said.body ≡ Ok (asks.Command (Open account))) × (said.session ≡ owner))
+      → (owner_of state.members.owners account ≡ Some owner) ⊎ (IsOpened state (after_body number state said) said account × (said.session ≡ owner))
+  pub owned : (account : ℕ) → IsOpened state (after_body number state said) said account → owner_of (after_body number state said).members.owners account ≡ Some said.session
 
 -- ---- bodies, in the state that those before them left
 pub record AreRuledFrom (number : ℕ) (state : ServedMembers) (later : List SaidBody) : Type 0 where
@@ -47,6 +47,8 @@ pub record AreRuledFrom (number : ℕ) (state : ServedMembers) (later : List Sai
   pub asks : (number : ℕ) (body : List ℕ) → IsToldAsNext number state.served body
   -- an account that has an owner keeps it
   pub owners : (account owner : ℕ) → owner_of state.members.owners account ≡ Some owner → owner_of (after_all number state later).members.owners account ≡ Some owner
+  -- an account that is secured stays so
+  pub secured : (account : ℕ) → is_secured state.served.secured account ≡ true → is_secured (after_all number state later).served.secured account ≡ true
   -- a closed market stands still until a body that is let through clears, settles or opens it
   pub closed : (market : ℕ) (meanwhile rest : List SaidBody) → later ≡ meanwhile ++ rest → is_closed state.served.serving.closed market ≡ true
       → AreMeanwhile market number state meanwhile → StandsStill market (phased_of state.served.serving) (phased_of (after_all number state meanwhile).served.serving)

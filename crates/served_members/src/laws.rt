@@ -57,13 +57,13 @@ pub fn members_move_by_rule()
     ensures { MoveByRule }
 {}
 
-/// The owner of an account is the session that opened it.
+/// The owner of an account is the session that opened it, and no other; and only what is open has one.
 pub fn owned_by_opening()
     ensures { OwnedByOpening }
 {}
 
 /// Whatever sessions say, each account of one that is not the operator's is secured, from its
-/// opening.
+/// opening; and what is secured stays so.
 pub fn members_are_secured()
     ensures { MembersAreSecured }
 {}
@@ -88,8 +88,8 @@ pub fn closed_markets_stand_still()
 
 /// Of bodies that sessions say, wherever they are parted: a session that is not the operator's is
 /// within its part of what all share, an account keeps its owner, which is the session that opened
-/// it, a closed market stands still, and what the rule refuses is told so, as is what would tell of
-/// an account whose owner the session is not.
+/// it, what is secured stays so, a closed market stands still, and what the rule refuses is told so,
+/// as is what would tell of an account whose owner the session is not.
 pub fn members_are_ruled()
     ensures { MembersAreRuled }
 {}

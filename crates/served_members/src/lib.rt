@@ -6,4 +6,6 @@
 pub mod laws;
 mod served;
 
+pub use member_lines::MemberLines;
+pub use secured_lines::SecuredLines;
 pub use served::ServedLines;

@@ -30,7 +30,7 @@ impl<A: AnswersMessages> Model for SessionLines<A> {
 
     ghost Value = { SessionsState A };
 
-    ghost view = { λ s. (s.gate, s.bodies) };
+    ghost view = { λ s. (s.gate.state, s.bodies) };
 }
 
 /// A line without its line feed.
@@ -44,7 +44,7 @@ pub fn without_feed(line: Vec<u8>) -> Vec<u8>
 
 /// The kept reply of a session, and nothing where it is not known.
 pub fn kept_reply(gate: &Gate, session: u32) -> &[u8]
-    ensures { result.now ≡ kept_reply gate.now session }
+    ensures { result.now ≡ kept_reply gate.now.state session }
 {
     match gate.kept(session) {
         Some(reply) => reply,
@@ -73,11 +73,13 @@ impl<A: AnswersMessages> SessionLines<A> {
             (message_of sent.now.session sent.now.number sent.now.body.now)) }
     {
         let number = self.gate.served() + 1;
+        let body = self.gate.reserve(sent.body)?;
         let text = self
             .bodies
             .answer_body(alloc, sent.session, number, sent.body)?;
         self.gate
-            .keep(sent.session, sent.number, sent.body, without_feed(text))
+            .keep(sent.session, sent.number, body, without_feed(text));
+        Ok(())
     }
 
     // Answers a message.

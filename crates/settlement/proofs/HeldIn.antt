@@ -1,23 +1,19 @@
 -- The positions of a market, one after another.
-use Rattle.std.proofs.Common.{◌≡◌, ℕ, Bool, true, false, cond, List, [], ◌∷◌, ◌++◌, nat_eq, ap, refl, subst, ◌∙◌, append_assoc, arith}
-use Rattle.std.proofs.lemmas.Bool.Decides.{nat_tests}
+use Rattle.std.proofs.Common.{◌≡◌, ℕ, Bool, true, false, cond, List, [], ◌∷◌, ◌++◌, nat_eq, ap, refl, subst, ◌∙◌, append_assoc}
 use Rattle.std.specs.List.{All}
 use Rattle.std.proofs.lemmas.List.Elements.{All-head, All-tail}
 use Rattle.settlement.specs.declared.position.PaidOut.{PaidOut}
 use Rattle.settlement.specs.declared.position.Position.{Position}
 use Rattle.settlement.specs.Payout.{IsSettledAt}
 use Rattle.settlement.specs.Positions.{AreSettledAt, held_in, paid_out, payouts_of}
-use Rattle.std.proofs.lemmas.Bool.{ne_eqb}
-
-own_test : (a b : ℕ) → a ≡ b → nat_eq a b ≡ true
-own_test a b e = grind (arith, nat_tests)
+use Rattle.std.proofs.lemmas.Bool.{eq-eqb, ne_eqb}
 
 module _ (market : ℕ) (prices : List ℕ) (p : Position) (rest xs : List Position) (first : xs ≡ p ∷ rest) where
   abbrev IsSettled : Position → Type 0
   IsSettled position = IsSettledAt prices position.bundle
 
   held_first : p.market ≡ market → held_in market xs ≡ p ∷ held_in market rest
-  held_first own = ap (held_in market) first ∙ ap (λ b. cond b (p ∷ held_in market rest) (held_in market rest)) (own_test p.market market own)
+  held_first own = ap (held_in market) first ∙ ap (λ b. cond b (p ∷ held_in market rest) (held_in market rest)) (eq-eqb p.market market own)
 
   held_rest : (p.market ≡ market → ⊥) → held_in market xs ≡ held_in market rest
   held_rest other = ap (held_in market) first ∙ ap (λ b. cond b (p ∷ held_in market rest) (held_in market rest)) (ne_eqb p.market market other)

@@ -6,9 +6,8 @@ use Rattle.std.specs.Int.Signed.{le_z_yes}
 use Rattle.std.proofs.lemmas.Bool.{ltb-true, leb-true, and_parts}
 use Rattle.std.proofs.lemmas.Float.{T_from_true}
 use Rattle.std.proofs.lemmas.Int.{ints}
-use Rattle.std.proofs.lemmas.List.Elements.{All-nil, All-cons}
+use Rattle.std.proofs.lemmas.List.Elements.{All-cons, All-head, All-nil, All-tail}
 use Rattle.std.proofs.lemmas.List.Kept.{AllPairs-cons}
-use Rattle.arithmetic.proofs.Sums.{All-head, All-tail}
 use Rattle.exact_num.specs.Fraction.{Fraction}
 use Rattle.exact_num.specs.Steps.{all_of}
 use Rattle.exact_num.specs.Tests.{is_at_most}

@@ -4,10 +4,10 @@ use Rattle.std.specs.Prelude.{if◌then◌else◌}
 use Rattle.std.proofs.lemmas.Bool.{cases_lt}
 use Rattle.std.proofs.lemmas.Bool.Decides.{nat_tests}
 use Rattle.std.proofs.lemmas.Int.{ints}
+use Rattle.std.proofs.lemmas.List.Elements.{All-head, All-tail}
 use Rattle.arithmetic.proofs.Integers.{*ℤ_mono}
 use Rattle.arithmetic.proofs.Parts.{part_above}
 use Rattle.arithmetic.proofs.Products.{products}
-use Rattle.arithmetic.proofs.Sums.{All-head, All-tail}
 use Rattle.exact_num.specs.declared.misfit.Wide.{Wide}
 use Rattle.exact_num.specs.Fraction.{Fraction, whole}
 use Rattle.exact_num.specs.CommonDenominator.{amount_over}

@@ -2,7 +2,7 @@
 use Rattle.std.proofs.Common.{◌≡◌, ℕ, zero, suc, ◌+◌, ◌-◌, ◌<◌, ◌≤◌, true, false, negsuc, Bool, List, [], ◌∷◌, ◌++◌, length, get_or, map, drop, replicate, arith, ℤ, pos, refl, ap, sym, subst, ◌∙◌, slice_get, option_map, Some, None, Ok}
 use Rattle.std.specs.Prelude.{nat_le}
 use Rattle.std.proofs.lemmas.Option.{slice_get-get_or, slice_get-map, get_or_from_slice_get}
-use Rattle.std.proofs.lemmas.List.{drop_all, get_or_default, length-append, length-map}
+use Rattle.std.proofs.lemmas.List.{get_or_default, length-append, length-map}
 use Rattle.std.proofs.Math.Bool.{and-false}
 use Rattle.std.proofs.lemmas.Bool.Decides.{nat_tests}
 use Rattle.std.proofs.Math.Seq.{drop-append_seam}
@@ -44,9 +44,6 @@ leg_in o f leg = fraction_leg o.side f leg
 pub order_first : {A : Type 0} (value : A → Fraction) (os : List Order) (fs : List A) (k : ℕ) (o : Order) (f : A) → length fs ≡ length os → k < length os → o ≡ get_or os k o → f ≡ get_or fs k f
     → legs_from value os fs k ≡ map (leg_in o (value f)) (bundle_of o) ++ legs_from value os fs (k + 1)
 order_first value os fs k o f len lt io jf = rw (item_first os k o lt io, item_first fs k f (omega arith) jf) refl
-
-pub orders_end : {A : Type 0} (value : A → Fraction) (os : List Order) (fs : List A) (k : ℕ) → length os ≤ k → legs_from value os fs k ≡ []
-orders_end value os fs k le = rw (drop_all k os le) refl
 
 -- the leg of an order, and those after the order's
 pub length-bundle : (o : Order) → length (bundle_of o) ≡ length (legs_in o.bundle)

@@ -2,8 +2,8 @@
 -- liability and the multipliers.
 use Rattle.std.proofs.Common.{◌≡◌, ℕ, ◌≤◌, List, [], ◌∷◌, ◌++◌, length, map, get_or, pos, ◌≤ℤ◌, All, refl, ap}
 use Rattle.std.proofs.lemmas.List.{length-map}
-use Rattle.std.proofs.lemmas.List.Elements.{All-nil, All-cons, All-append}
-use Rattle.arithmetic.proofs.Sums.{All-head, All-tail, All-of_map}
+use Rattle.std.proofs.lemmas.List.Elements.{All-append, All-cons, All-head, All-nil, All-tail}
+use Rattle.arithmetic.proofs.Sums.{All-of_map}
 use Rattle.exact_num.specs.Fraction.{Fraction, IsLowest, IsNotBelowZero}
 use Rattle.exact_num.specs.CommonDenominator.{common_denominator, amount_over}
 use Rattle.exact_num.proofs.Fractions.{common_positive}

@@ -1,7 +1,7 @@
 -- One step of the run.
 use Rattle.std.proofs.Common.{◌≡◌, ℕ, zero, suc, ◌+◌, ◌-◌, ◌<◌, ◌≤◌, refl, sym, arith}
 use Rattle.std.specs.Prelude.{Some, None, Bool, true, false, nat_lt, if◌then◌else◌}
-use Rattle.std.proofs.lemmas.Bool.Decides.{nat_tests}
+use Rattle.std.proofs.lemmas.Bool.{ltb-false, ltb-true}
 use Rattle.exact_num.specs.declared.misfit.Wide.{Wide}
 use Rattle.simplex_run.specs.Ending.{wide_at, no_unit_left, unbounded}
 use Rattle.simplex_run.specs.Table.{Table}
@@ -36,15 +36,9 @@ run_misfits limit n m (suc left) spent c e w h k p = rw (h, k) refl
 
 -- ---- what a spend says
 pub spent_one : (r : Bool) (old limit new : ℕ) → r ≡ nat_lt old limit → new ≡ (if r then old + 1 else old) → r ≡ true → (old < limit) × (new ≡ old + 1)
-spent_one true old limit new a s e = (ltb_below old limit (sym a), s)
-  where
-    ltb_below : (m n : ℕ) → nat_lt m n ≡ true → m < n
-    ltb_below m n h = grind (arith, nat_tests)
+spent_one true old limit new a s e = (ltb-true old limit (sym a), s)
 spent_one false old limit new a s e = cc
 
 pub spent_none : (r : Bool) (old limit new : ℕ) → r ≡ nat_lt old limit → new ≡ (if r then old + 1 else old) → r ≡ false → (limit ≤ old) × (new ≡ old)
 spent_none true old limit new a s e = cc
-spent_none false old limit new a s e = (not_below old limit (sym a), s)
-  where
-    not_below : (m n : ℕ) → nat_lt m n ≡ false → n ≤ m
-    not_below m n h = grind (arith, nat_tests)
+spent_none false old limit new a s e = (ltb-false old limit (sym a), s)

@@ -17,7 +17,7 @@ use Rattle.simplex_run.proofs.FirstTable.{append_has, one_has}
 use Rattle.simplex_run.proofs.Suffice.{units_suffice}
 use Rattle.simplex_run.specs.Table.{Table as TableOf, first_table}
 use Rattle.simplex_run.specs.Run.{Optimum, read_off, run, run_from}
-use Rattle.fraction_tableau.specs.Programs.{coefficients_in, empty_program, program_of, with_row}
+use Rattle.fraction_tableau.specs.Programs.{empty_program, program_of, with_row}
 use Rattle.fraction_tableau.proofs.ArenaSteps.{lowest_all}
 use Rattle.fraction_tableau.proofs.EntrySteps.{at-map}
 use Rattle.fraction_tableau.proofs.Starts.{program_more}
@@ -104,7 +104,6 @@ stop_enough limit left before p (unbounded d spent) g h e = absurd cc
 stop_enough limit left before p (wide_at spent wide) g h e = absurd cc
 stop_enough limit left before p (no_unit_left spent) g h e = out_of_units limit left before spent p g h
 
--- ---- lists by place
 -- ---- what the contents say of the fields
 pub program_is_given : {A : Type 0} (value : A → Fraction) (limit : ℕ) (stage : Stage) (p : LinearProgram) (t : Table A) (w : WholeTable) (c : Contents) → contents_of value stage p t w ≡ c → IsProgramGiven c → IsAt limit stage p t w
     → (stage ≡ Given) × (program_given c ≡ p) × IsProgram p
@@ -161,9 +160,6 @@ pub program_stands : (limit : ℕ) (p : LinearProgram) (c : Contents) → IsProg
 program_stands limit p c g same = subst IsProgram (sym same) g
 
 -- ---- the program, given to a table
-pub none_given : {A : Type 0} (value : A → Fraction) (costs : List A) (lists : List (List Fraction)) → empty_program (map value costs) ≡ program_of (length costs) (take 0 lists) (map value costs)
-unfolding coefficients_in
-none_given value costs lists = let count = length-map costs value in rw count refl
 
 -- one row more, of those that are listed
 pub one_given : {A : Type 0} (value : A → Fraction) (n : ℕ) (lists : List (List Fraction)) (costs : List Fraction) (p new : LinearProgram) (line a : List A) (b : A) (i : ℕ) → p ≡ program_of n (take i lists) costs → new ≡ with_row p (map value a) (value b)

@@ -67,9 +67,6 @@ pub record IsSwap (ls : List ℕ) (c e v : ℕ) : Type 0 where
   pub distinct : Distinct ls
   pub fresh : HasNone ls v
 
-pub swap_apart : (ls : List ℕ) (c e v : ℕ) → IsSwap ls c e v → v ≡ e → ⊥
-swap_apart ls c e v s h = s.fresh c s.inside (s.entering ∙ sym h)
-
 pub label_other : (ls : List ℕ) (c v k : ℕ) → (k ≡ c → ⊥) → label_at (set ls c v) k ≡ label_at ls k
 label_other ls c v k ne = get_or-set_other ls c k v 0 ne
 

@@ -3,6 +3,7 @@ use Rattle.std.proofs.Common.{◌≡◌, ℕ, zero, suc, ◌+◌, ◌-◌, ◌<�
 use Rattle.std.specs.Prelude.{if◌then◌else◌}
 use Rattle.std.proofs.Math.Decide.{ℕ_discrete}
 use Rattle.std.proofs.lemmas.Bool.Decides.{nat_tests}
+use Rattle.std.proofs.lemmas.Bool.{eq-eqb, false_from_ne_true, ne_eqb}
 use Rattle.simplex_run.specs.Choose.{choose}
 
 abbrev pub one_if : Bool → ℕ
@@ -33,7 +34,7 @@ pub choose_both : (n m : ℕ) → choose (suc n) (suc m) ≡ choose n (suc m) + 
 unfolding choose
 choose_both n m = refl
 
-choose_none : (n : ℕ) → choose n 0 ≡ 1
+pub choose_none : (n : ℕ) → choose n 0 ≡ 1
 unfolding choose
 choose_none n = refl
 
@@ -75,13 +76,10 @@ unfolding among
 among_is zero f i h = absurd (omega (arith, h))
 among_is (suc m) f i h =
     elim (ℕ_discrete i m) [
-      | yes e ↦ let t : nat_eq (f m) (f i) ≡ true = same (f m) (f i) (ap f (sym e)) in rw t refl
+      | yes e ↦ let t : nat_eq (f m) (f i) ≡ true = eq-eqb (f m) (f i) (ap f (sym e)) in rw t refl
       | no ne ↦ let before = among_is m f i (omega (arith, h, ne)) in or_so (nat_eq (f m) (f i)) (among m f (f i)) before
     ]
   where
-    same : (a b : ℕ) → a ≡ b → nat_eq a b ≡ true
-    same a b e = grind (arith, nat_tests)
-
     or_so : (b c : Bool) → c ≡ true → (if b then true else c) ≡ true
     or_so true c e = refl
     or_so false c e = e
@@ -112,36 +110,26 @@ count-more zero b s h k = absurd (omega (arith, h))
 count-more (suc n) b s h k =
     elim (ℕ_discrete b n) [
       | yes e ↦
-          let t : nat_eq b n ≡ true = same b n e in
+          let t : nat_eq b n ≡ true = eq-eqb b n e in
           let none : s n ≡ false = ap s (sym e) ∙ k in
           ap (λ w. one_if (if w then true else s n) + count n (λ j. if nat_eq b j then true else s j)) t
-          ∙ ap (λ w. 1 + w) (count-ext n _ s (λ j p. ap (λ w. if w then true else s j) (other b j (λ q. omega (arith, q, e, p)))))
+          ∙ ap (λ w. 1 + w) (count-ext n _ s (λ j p. ap (λ w. if w then true else s j) (ne_eqb b j (λ q. omega (arith, q, e, p)))))
           ∙ plain (count n s)
           ∙ ap (λ w. suc (one_if w + count n s)) (sym none)
       | no ne ↦
-          ap (λ w. one_if (if w then true else s n) + count n (λ j. if nat_eq b j then true else s j)) (other b n ne)
+          ap (λ w. one_if (if w then true else s n) + count n (λ j. if nat_eq b j then true else s j)) (ne_eqb b n ne)
           ∙ ap (λ w. one_if (s n) + w) (count-more n b s (omega (arith, h, ne)) k) ∙ omega arith
     ]
   where
     plain : (k : ℕ) → 1 + k ≡ suc (0 + k)
     plain k = omega arith
 
-    same : (a b : ℕ) → a ≡ b → nat_eq a b ≡ true
-    same a b e = grind (arith, nat_tests)
-
-    other : (a b : ℕ) → (a ≡ b → ⊥) → nat_eq a b ≡ false
-    other a b ne = grind (arith, nat_tests)
-
 pub count_among : (n m : ℕ) (f : ℕ → ℕ) → ((i : ℕ) → i < m → f i < n) → ((i k : ℕ) → i < m → k < m → f i ≡ f k → i ≡ k) → count n (among m f) ≡ m
 unfolding among
 count_among n zero f low apart = count-none n _ (λ j p. refl)
 count_among n (suc m) f low apart =
-    count-more n (f m) (among m f) (low m (omega arith)) (not_true (among m f (f m)) (λ h. let w = among_out m f (f m) h in let e : w.0 ≡ m = apart w.0 m (omega (arith, w.1)) (omega arith) w.2 in omega (arith, e, w.1)))
+    count-more n (f m) (among m f) (low m (omega arith)) (false_from_ne_true (among m f (f m)) (λ h. let w = among_out m f (f m) h in let e : w.0 ≡ m = apart w.0 m (omega (arith, w.1)) (omega arith) w.2 in omega (arith, e, w.1)))
     ∙ ap suc (count_among n m f (λ i p. low i (omega (arith, p))) (λ i k p q e. apart i k (omega (arith, p)) (omega (arith, q)) e))
-  where
-    not_true : (b : Bool) → (b ≡ true → ⊥) → b ≡ false
-    not_true true h = absurd (h refl)
-    not_true false h = refl
 
 -- ---- different numbers below c are at most c
 find : (f : ℕ → ℕ) (c L : ℕ) → ((i : ℕ) × (i < L) × (f i ≡ c)) ⊎ ((i : ℕ) → i < L → f i ≡ c → ⊥)

@@ -1,7 +1,7 @@
 -- Some limit fits each run, so without a limit each ends with an optimum or a direction.
 use Rattle.std.proofs.Common.{◌≡◌, ℕ, zero, suc, ◌+◌, ◌≤◌, List, [], ◌∷◌, length, set, arith, refl, ap, pos, unsigned_abs, Bool, true, false, nat_eq}
 use Rattle.std.specs.Prelude.{Result, Ok, Option, Some, None, if◌then◌else◌, nat_le}
-use Rattle.std.proofs.lemmas.Bool.Decides.{nat_tests}
+use Rattle.std.proofs.lemmas.Bool.{le-leb}
 use Rattle.exact_num.specs.declared.misfit.Wide.{Wide}
 use Rattle.exact_num.specs.Fraction.{Fraction, whole, negated}
 use Rattle.exact_num.specs.Fits.{size_fits, sum_fits, sum_value, add_of, sub_of, sum_left, sum_right, sum_total, sum_below, product_fits, product_value, product_above, product_below, mul_of, div_of, inverse, after}
@@ -31,8 +31,6 @@ ok_fits : {A E : Type 0} (a : A) → Fits {A = A} {E = E} (λ l. Ok a)
 ok_fits a = (0, a, λ l low. refl)
 
 -- ---- the steps
-le_true : (m n : ℕ) → m ≤ n → nat_le m n ≡ true
-le_true m n h = grind (arith, nat_tests)
 
 add_fits : (x y : Fraction) → Fits (λ l. add_of l x y)
 unfolding add_of sum_fits
@@ -44,10 +42,10 @@ add_fits x y =
       a + b + c + d,
       sum_value x y,
       λ l low.
-          let p : size_fits l (sum_left x y) ≡ true = le_true a l (omega (arith, low)) in
-          let q : size_fits l (sum_right x y) ≡ true = le_true b l (omega (arith, low)) in
-          let r : size_fits l (sum_total x y) ≡ true = le_true c l (omega (arith, low)) in
-          let s : nat_le (sum_below x y) l ≡ true = le_true d l (omega (arith, low)) in
+          let p : size_fits l (sum_left x y) ≡ true = le-leb a l (omega (arith, low)) in
+          let q : size_fits l (sum_right x y) ≡ true = le-leb b l (omega (arith, low)) in
+          let r : size_fits l (sum_total x y) ≡ true = le-leb c l (omega (arith, low)) in
+          let s : nat_le (sum_below x y) l ≡ true = le-leb d l (omega (arith, low)) in
           rw (p, q, r, s) refl,
     )
 
@@ -58,8 +56,8 @@ product_test x y =
     let b : ℕ = product_below x y in (
       a + b,
       λ l low.
-          let p : size_fits l (product_above x y) ≡ true = le_true a l (omega (arith, low)) in
-          let q : nat_le (product_below x y) l ≡ true = le_true b l (omega (arith, low)) in
+          let p : size_fits l (product_above x y) ≡ true = le-leb a l (omega (arith, low)) in
+          let q : nat_le (product_below x y) l ≡ true = le-leb b l (omega (arith, low)) in
           rw (p, q) refl,
     )
 

@@ -1,8 +1,7 @@
 -- The entries of a table, by places and by variables.
 use Rattle.std.proofs.Common.{◌≡◌, ℕ, zero, suc, ◌+◌, ◌<◌, ◌≤◌, List, [], ◌∷◌, length, set, ◌⊎◌, inl, inr, arith, refl, sym, ◌∙◌, ap, subst, pos, Bool, true, false, nat_eq}
 use Rattle.std.specs.Prelude.{if◌then◌else◌}
-use Rattle.std.proofs.lemmas.Bool.{cases_lt, eq-eqb}
-use Rattle.std.proofs.lemmas.Bool.Decides.{nat_tests}
+use Rattle.std.proofs.lemmas.Bool.{cases_lt, eq-eqb, ne_eqb}
 use Rattle.std.proofs.lemmas.List.{get_or-set_same, get_or-set_other, length-set}
 use Rattle.std.proofs.Math.Decide.{ℕ_discrete}
 use Rattle.exact_num.specs.Fraction.{Fraction, IsLowest, whole}
@@ -39,11 +38,8 @@ no_row (row ∷ rows) (suc k) h = no_row rows k (omega (arith, h))
 pub own_same : (b j : ℕ) → b ≡ j → own_entry b j ≡ whole (pos 1)
 own_same b j e = let t = eq-eqb b j e in ap (λ (x : Bool). if x then whole (pos 1) else fraction_zero) t
 
-pub other_test : (j k : ℕ) → (j ≡ k → ⊥) → nat_eq j k ≡ false
-other_test j k h = grind (arith, nat_tests)
-
 pub own_other : (b j : ℕ) → (b ≡ j → ⊥) → own_entry b j ≡ fraction_zero
-own_other b j ne = let t = other_test b j ne in ap (λ (x : Bool). if x then whole (pos 1) else fraction_zero) t
+own_other b j ne = let t = ne_eqb b j ne in ap (λ (x : Bool). if x then whole (pos 1) else fraction_zero) t
 
 -- ---- the labels, with the right side
 pub labels_count : (n m : ℕ) (t : Table) → IsTable n m t → length (with_right t.columns t.labels) ≡ suc n

@@ -1,5 +1,5 @@
 -- Lists of f at i, i + 1 and so on.
-use Rattle.std.proofs.Common.{◌≡◌, ℕ, zero, suc, ◌+◌, ◌<◌, ◌∷◌, ◌++◌, length, map, arith, refl, ◌∙◌, ap}
+use Rattle.std.proofs.Common.{◌≡◌, ℕ, zero, suc, ◌+◌, ◌<◌, ◌∷◌, length, arith, refl, ◌∙◌, ap}
 use Rattle.std.specs.Prelude.{slice_index_or}
 use Rattle.std.specs.List.{All}
 use Rattle.std.proofs.lemmas.List.Elements.{All-nil, All-cons}
@@ -17,14 +17,6 @@ unfolding values_at
 listed_all P f h i zero = All-nil P
 listed_all P f h i (suc n) = All-cons P (f i) (values_at f (i + 1) n) (h i) (listed_all P f h (i + 1) n)
 
-pub listed_split : {A : Type 0} (f : ℕ → A) (j n m : ℕ) → values_at f j (n + m) ≡ values_at f j n ++ values_at f (j + n) m
-unfolding values_at
-listed_split f j zero m = let z : 0 + m ≡ m = omega arith in let s : j + 0 ≡ j = omega arith in rw (z, s) refl
-listed_split f j (suc n) m =
-    let z : suc n + m ≡ suc (n + m) = omega arith in
-    let s : j + 1 + n ≡ j + suc n = omega arith in
-    ap (values_at f j) z ∙ ap (λ w. f j ∷ w) (listed_split f (j + 1) n m ∙ ap (λ w. values_at f (j + 1) n ++ values_at f w m) s)
-
 -- two that agree place by place
 pub listed_same : {A : Type 0} (f g : ℕ → A) (k l m : ℕ) → ((i : ℕ) → i < m → f (k + i) ≡ g (l + i)) → values_at f k m ≡ values_at g l m
 unfolding values_at
@@ -41,11 +33,6 @@ listed_same f g k l (suc m) h =
 
 pub listed_alike : {A : Type 0} (f g : ℕ → A) (i n : ℕ) → ((j : ℕ) → f j ≡ g j) → values_at f i n ≡ values_at g i n
 listed_alike f g i n h = listed_same f g i i n (λ j low. h (i + j))
-
-pub map_listed : {A B : Type 0} (h : A → B) (f : ℕ → A) (i n : ℕ) → map h (values_at f i n) ≡ values_at (λ j. h (f j)) i n
-unfolding values_at
-map_listed h f i zero = refl
-map_listed h f i (suc n) = ap (λ xs. h (f i) ∷ xs) (map_listed h f (i + 1) n)
 
 -- ---- by place
 pub by_first : (P : ℕ → Type 0) → P zero → ((j : ℕ) → P (suc j)) → (j : ℕ) → P j

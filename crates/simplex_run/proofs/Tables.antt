@@ -4,6 +4,7 @@ use Rattle.std.specs.Prelude.{Result, Ok, Err, Option, Some, None}
 use Rattle.std.proofs.Math.Decide.{ℕ_discrete}
 use Rattle.std.specs.List.{Contains}
 use Rattle.std.proofs.lemmas.List.{length-map}
+use Rattle.std.proofs.lemmas.Option.{same_Some}
 use Rattle.exact_num.specs.declared.misfit.Wide.{Wide}
 use Rattle.simplex_run.specs.Program.{LinearProgram}
 use Rattle.simplex_run.specs.Table.{Row, Table, first_table, basic_at}
@@ -63,9 +64,6 @@ pub next_out : (limit : ℕ) (o : Option Table) (u : Table) → next_table limit
 next_out limit None u h = cc
 next_out limit (Some t) u h = let w = turned_out limit t u (entering t) refl h in (t, refl, w.0, w.1, w.2)
 
-some_same : {A : Type 0} {a b : A} → Some a ≡ Some b → a ≡ b
-some_same h = cc
-
 pub after_suc : (limit : ℕ) (p : LinearProgram) (k : ℕ) → next_table limit (table_after limit p k) ≡ table_after limit p (suc k)
 unfolding table_after
 after_suc limit p k = refl
@@ -100,7 +98,7 @@ step_of : (limit : ℕ) (p : LinearProgram) (i k : ℕ) → IsProgram p → tabl
 step_of limit p i k g here next =
     let e : i + suc k ≡ suc (i + k) = omega arith in
     let w = next_out limit (table_after limit p (i + k)) (tables limit p i (suc k)) (after_suc limit p (i + k) ∙ ap (table_after limit p) (sym e) ∙ next) in
-    let same : w.0 ≡ tables limit p i k = some_same (sym w.1 ∙ here) in
+    let same : w.0 ≡ tables limit p i k = same_Some _ _ (sym w.1 ∙ here) in
     table_pivot p limit (tables limit p i k) (tables limit p i (suc k)) w.2 (tables_keep limit p g (i + k) (tables limit p i k) here) (subst (λ (t : Table). entering t ≡ Some w.2) same w.3) (subst (λ (t : Table). pivoted limit w.2.place t ≡ moved (tables limit p i (suc k))) same w.4)
 
 pivots_of : (limit : ℕ) (p : LinearProgram) (i L : ℕ) (u : Table) → IsProgram p → table_after limit p (i + L) ≡ Some u → Pivots p.rows (p.variables + p.rows) L (λ k. tableau_of (tables limit p i k))
@@ -158,7 +156,7 @@ tables_are_feasible limit k p t g h = let kept = tables_keep limit p g k t h in 
 pub pivots_are_by_blands_rule : PivotsAreByBlandsRule
 pivots_are_by_blands_rule limit k p t u g here next =
     let w = next_out limit (table_after limit p k) u (after_suc limit p k ∙ next) in
-    let same : w.0 ≡ t = some_same (sym w.1 ∙ here) in (
+    let same : w.0 ≡ t = same_Some _ _ (sym w.1 ∙ here) in (
       enters_at t,
       leaves_at limit t,
       table_pivot p limit t u w.2 (tables_keep limit p g k t here) (subst (λ (s : Table). entering s ≡ Some w.2) same w.3) (subst (λ (s : Table). pivoted limit w.2.place s ≡ moved u) same w.4),

@@ -15,7 +15,7 @@
     propose    random books over the whole limits, each proposed for by a line that a second check
                calls a bound, and lines that are no books, for which nothing is written
     alloc      each allocation refused in turn, alone, and with all later ones
-    growth     likewise in a test of cases_exchange: a step that finds no memory changes nothing
+    growth     likewise in cases_bench: a step that finds no memory changes nothing
     short      every read and write moves at most so many bytes
     faults     each read, and each write, fails in turn
     live       serve: pieces and pauses at random, lines and numbers of lines at their limits and
@@ -61,7 +61,7 @@ TRIALS: dict[str, Trial] = {
 # Why a trial cannot be made here, if it cannot.
 LACKING: dict[str, Callable[[], str]] = {
     **dict.fromkeys(("alloc", "short", "faults"), faults.lacks_compiler),
-    "growth": faults.lacks_test,
+    "growth": faults.lacks_parts,
 }
 
 

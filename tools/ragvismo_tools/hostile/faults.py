@@ -87,12 +87,12 @@ def alloc(program: pathlib.Path, quick: bool) -> tuple[int, str]:
 
 
 def growth(program: pathlib.Path, quick: bool) -> tuple[int, str]:
-    """A test that shows an exchange before and after each step, and does a refused one again."""
-    expect(not lacks_test(), lacks_test())
-    faulty, words, done, ended = Faulty(GROWTH), ["growth::a_refused_growth_changes_nothing"], 0, 0
+    """A program that shows an exchange before and after each step, and does a refused one again."""
+    expect(not lacks_parts(), lacks_parts())
+    faulty, words, done, ended = Faulty(GROWTH), ["growth"], 0, 0
     for number in range(1, faulty.plain(words, b"")[2]["alloc"] + 1, 20 if quick else 1):
         status, out, said = faulty.run(words, b"", f"alloc {number}")
-        wants = b"Error: memory allocation failed\n" in out + said
+        wants = said in (b"Error: out of memory\n", b"Error: memory allocation failed\n")
         expect(status == 0 or wants, f"alloc {number}: status {status}, {(out + said)[-200:]!r}")
         done, ended = done + (status == 0), ended + (status != 0)
     return (
@@ -143,14 +143,14 @@ def faults(program: pathlib.Path, quick: bool) -> tuple[int, str]:
     )
 
 
-GROWTH = TOP / "crates/cases_exchange/out/cases_exchange_tests"
+GROWTH = TOP / "crates/cases_bench/out/cases_bench"
 
 
 def lacks_compiler() -> str:
     return "" if shutil.which("cc") else "there is no C compiler cc, which compiles tools/faults.c"
 
 
-def lacks_test() -> str:
+def lacks_parts() -> str:
     missing = (
         ""
         if os.access(GROWTH, os.X_OK)

@@ -4,6 +4,10 @@ In a file of cases `== `, the words of the program and a name stand before each;
 and behind `= ` the lines that are written: all of them, or, in clears and endings, the last. Behind
 `> ` stands a line without its line feed. A line `* 9 LINES` stands for its lines, apart by
 semicolons, 9 times, with the number of the time for each `#`.
+
+In lines.txt a bar stands behind each command line, and behind it whether it is read, or why it is
+refused. In faults.txt `== ` and a reason stand before lines that are refused for it. Behind `= `
+stands a sound line; below it each is that line with the text behind a bar for the text before it.
 """
 
 from __future__ import annotations
@@ -24,6 +28,25 @@ from ragvismo_tools.tests.common import Ran, built, run
 MALFORMED = (
     "7|7,1|7,1,|,1,a|7,,a|0,1,a|1000000000,1,a|7,0,a|7,1000001,a|07,1,a|-7,1,a|+7,1,a| 7,1,a|"
     '"7",1,a|7,1,\ufeffa|7,1,\ufeff|7,1,a\rb|7,1,a\r\r|\ufeff7,1,a|\ufeff'
+)
+# What is no JSON.
+NO_JSON = (
+    "[",
+    "[" * 128 + "]" * 128,
+    '{"account":1,"line":1,"reply":"opened"',
+    '{"account":1,"line":1,"reply":"opened"}{}',
+    '{"account":1,"line":1,"reply":"opened"}\0',
+    '{"account":1,"line":1,"reply":"op\0ned"}',
+    '\ufeff{"account":1,"line":1,"reply":"opened"}',
+    '{"account":1,"line":1,"reply":"\\ud800"}',
+    '{"account":01,"line":1,"reply":"opened"}',
+    '{"account":1e999,"line":1,"reply":"opened"}',
+    '{"account":1e999,"account":1,"line":1,"reply":"opened"}',
+)
+# Bytes that are no plain line, apart by bars.
+NO_LINES = (
+    b"open,1\r|op\ren,1|\r|\xef\xbb\xbfopen,1|\xef\xbb\xbf|open,1\xff|open,\xe2\x82|\xc3\xb6,1|"
+    + b"," * 1_000_000
 )
 # Lines of every shape, the last without a line feed.
 LINES = b"\xef\xbb\xbfopen,1\r\n\nopen,2\n\r\n\xef\xbb\xbfopen,3\nopen,4"
@@ -68,6 +91,32 @@ def cases(file: str) -> Iterator[Case]:
         yield Case(words.split(), name, given.encode(), wanted.encode())
 
 
+def refusals() -> Iterator[tuple[str, tuple[int, int] | None]]:
+    """Command lines, each with the number and the field (or 0) of its refusal if it is not read."""
+    for text in (CASES / "lines.txt").read_text().splitlines():
+        line, _, said = text.rpartition(" | ")
+        word, _, field = said.partition(" ")
+        yield line, {"Syntax": (1, 0), "Range": (8, int(field or 0)), "read": None}[word]
+
+
+def faults() -> Iterator[tuple[str, str]]:
+    """Reasons, and lines that `check` refuses for them."""
+    reason = sound = ""
+    for text in (CASES / "faults.txt").read_text().splitlines():
+        mark, behind = text[:2], text[2:]
+        if mark == "==":
+            reason = behind.strip()
+        elif mark == "= ":
+            sound = behind
+        else:
+            parts = text.split(" | ")
+            line = sound if len(parts) > 1 else text
+            for old, new in zip(parts[::2], parts[1::2]):
+                assert line.count(old) == 1, text
+                line = line.replace(old, new)
+            yield reason, line
+
+
 def ended(words: list[str], given: bytes) -> Ran:
     return subprocess.run([PROGRAM, *words], input=given, capture_output=True)
 
@@ -94,6 +143,51 @@ class Cases(unittest.TestCase):
                     ran = ended(case.words, case.given)
                     front = len(ran.stdout) - len(case.wanted)
                     self.assertEqual((ran.returncode, ran.stdout[front:]), (0, case.wanted))
+
+    def test_command_lines_are_read_or_refused(self) -> None:
+        lines = dict(refusals()) | {"bundle,1,1,buy,1,1,9" + "," * 1_000_000: (8, 7)}
+        ran = ended(["run"], "".join(f"{line}\n" for line in lines).encode())
+        replies = [json.loads(line) for line in ran.stdout.splitlines()]
+        self.assertEqual(len(replies), len(lines))
+        for reply, (line, wanted) in zip(replies, lines.items()):
+            with self.subTest(line=line[:100]):
+                said = (reply.get("number"), reply.get("field", 0))
+                self.assertEqual(said if said[0] in (1, 8) else None, wanted)
+
+    def test_bytes_that_are_no_plain_line_are_refused(self) -> None:
+        lines = NO_LINES.split(b"|")
+        replies = ended(["run"], b"open,9\n" + b"\r\n".join(lines)).stdout.splitlines()
+        self.assertEqual(len(replies), len(lines) + 1)
+        for number, reply in enumerate(replies[1:], start=2):
+            wanted = f'{{"line":{number},"number":1,"reason":"Syntax","reply":"refused"}}'
+            self.assertEqual(reply.decode(), wanted)
+
+    def test_marks_and_line_ends_are_taken_away_once(self) -> None:
+        given = b"\xef\xbb\xbfopen,1\r\n\r\n\nfly\nopen,2\r\r\n\xef\xbb\xbfopen,3\nbalance,0"
+        replies = [json.loads(line) for line in ended(["run"], given).stdout.splitlines()]
+        told = [(reply["line"], reply["reply"]) for reply in replies]
+        refused = [(number, "refused") for number in (4, 5, 6)]
+        self.assertEqual(told, [(1, "opened"), *refused, (7, "balance")])
+
+    def refused(self, reason: str, given: bytes) -> None:
+        ran = ended(["check"], given)
+        wanted = f'{{"line":1,"reason":"{reason}","verdict":"no"}}\n'
+        self.assertEqual((ran.returncode, ran.stdout), (6, wanted.encode()))
+
+    def test_lines_are_refused_for_their_first_fault(self) -> None:
+        for reason, line in faults():
+            with self.subTest(reason=reason, line=line):
+                self.refused(reason, line.encode())
+        for line in NO_JSON:
+            with self.subTest(line=line):
+                self.refused("NotJson", line.encode())
+        self.refused("NotJson", b'"\xff"')
+        self.refused("Shape", b"[" * 127 + b"]" * 127)
+
+    def test_lines_cut_short_are_no_json(self) -> None:
+        line = b'{"account":1,"balance":"-7","line":16777216,"reply":"withdrawn"}'
+        for end in range(1, len(line)):
+            self.refused("NotJson", line[:end])
 
     def test_demos_end_as_they_must(self) -> None:
         for seed, count, lines, end in (

@@ -11,6 +11,7 @@ from ragvismo_tools.explain import BUNDLE_HEAD, COUNT, LAYOUTS, WEIGHT, Number
 from ragvismo_tools.places import TOP
 from ragvismo_tools.plain_check import BESIDE, GATE, REASONS
 from ragvismo_tools.tests.common import Folder, run
+from ragvismo_tools.wrong_bodies import BY_GATE, BY_HAND, bodies
 
 CRATES = TOP / "crates"
 DOCUMENTS = (TOP / "README.md", *sorted((TOP / "docs").glob("*.md")))
@@ -130,6 +131,12 @@ class Documents(Folder):
         for name in ("README.md", "docs/FORMATS.md"):
             for number in LARGE.findall(without_code(written(TOP / name))):
                 self.assertIn(int(number.replace(",", "")), limits, name)
+
+    def test_wrong_bodies_are_as_many_as_is_told(self) -> None:
+        tried, others = bodies(BY_GATE), bodies(BY_HAND)
+        text = " ".join(written(TOP / "docs/PROVING.md").split())
+        self.assertIn(f"alone, of {len({it.parents[1] for it in tried})} crates.", text)
+        self.assertIn(f"All {len(tried) + len(others)} would", text)
 
     def test_layers_name_lower_ones(self) -> None:
         layers = written(TOP / "docs/ARCHITECTURE.md").partition("From below:")[2]

@@ -4,11 +4,14 @@ from __future__ import annotations
 
 from typing import Any
 import json
+import math
 import subprocess
+import unittest
 from fractions import Fraction
 
 from ragvismo_tools.piping import ends_of, piped
 from ragvismo_tools.places import PROGRAM, TOP
+from ragvismo_tools.solvers import Solver
 from ragvismo_tools.tests.common import PROPOSAL, Folder, built, run
 
 
@@ -42,6 +45,18 @@ class Live(Folder):
         self.refused(run("live-demo", self.folder, "--play"))
         self.assertEqual((self.folder / "one").read_text(), "kept")
 
+    def test_carriage_returns_of_traders(self) -> None:
+        """One before the line feed is dropped by the exchange, and so not by the demo too."""
+        command = [TOP / "tools/live-demo", self.folder]
+        with subprocess.Popen(command, stdout=subprocess.PIPE) as child:
+            assert child.stdout
+            child.stdout.readline()
+            for trader, text in (("one", b"\r\n\r\r\n"), ("two", b"open,2\r\n")):
+                (self.folder / trader).write_bytes(text)
+            said = child.stdout.read()
+        self.assertEqual((child.returncode, said.count(b"\n")), (0, 4), said)
+        self.assertTrue(b'"Syntax"' in said and b'"opened"' in said, said)
+
 
 # The butterfly up to its sells, and a clear whose own run stops.
 STOPPED = "".join(
@@ -63,6 +78,14 @@ BAD_SOLVERS = {
     "lies": f"while read -r book; do echo 'propose,1,{LIE}'; done",
     "gone": "exit 1",
 }
+
+
+class Asked(unittest.TestCase):
+    def test_a_solver_may_have_all_time(self) -> None:
+        solver = Solver(["cat"])
+        for seconds in (60, 1e12, math.inf):
+            self.assertEqual(solver.line_for(b"book\n", seconds), b"book")
+        solver.stop()
 
 
 @built
@@ -91,6 +114,13 @@ class Auction(Folder):
         ):
             reply = self.cleared(*map(str, solvers))
             self.assertEqual((reply["mark"], reply["surplus"]), (mark, surplus))
+
+    def test_lines_are_answered_as_serve_does(self) -> None:
+        """Whatever stands before a line feed, and an empty line too."""
+        text = b"\xef\xbb\xbfopen,1\r\n\r\n\r\r\nopen,2\r\r\n\xef\xbb\xbf\n\nopen,3"
+        served = subprocess.run([PROGRAM, "serve"], input=text, capture_output=True)
+        ran = run("auction", input=text, timeout=60)
+        self.assertEqual((ran.returncode, ran.stdout, ran.stderr), (0, served.stdout, b""))
 
     def test_the_program_is_the_solver_where_none_is_named(self) -> None:
         reply = self.cleared()

@@ -9,6 +9,9 @@ import subprocess
 from ragvismo_tools.places import TOP
 from ragvismo_tools.tests.common import JOURNALS, TOOLS, Folder, has, run, wants
 
+# A number of more digits than Python reads.
+LONG = ("9" * 5_000, 1)
+
 
 class Others(Folder):
     def test_each_tool_tells_its_use(self) -> None:
@@ -19,6 +22,8 @@ class Others(Folder):
         for tool in ("bench", "hostile"):
             self.refused(run(tool, "none"))
             self.refused(run(tool, "--program", "none"))
+        for seconds in ("0", "nan", "-1"):
+            self.refused(run("auction", "--program", "/bin/true", "--seconds", seconds))
         told = run("check-many", JOURNALS[0], "--program", "none")
         self.refused(told)
         self.assertIn(b"./build" if shutil.which("parallel") else b"tools/setup", told.stderr)
@@ -103,5 +108,11 @@ class Others(Folder):
         self.assertEqual(
             run("demo-commands", 1, 60).stdout, (TOP / "examples/demo.commands").read_bytes()
         )
-        for words in ((), (1,), (1, 0), (1, 10_001), (2**32, 1), ("01", 1), (1, 1, 1)):
+        for words in ((), (1,), (1, 0), (1, 10_001), (2**32, 1), ("01", 1), (1, 1, 1), LONG):
             self.refused(run("demo-commands", *words))
+
+    def test_a_basket(self) -> None:
+        lines = run("basket", "a", 3, 2).stdout.decode().splitlines()
+        self.assertEqual((lines[80], len(lines), lines[-1]), ("market,1,2", 85, "clear,1,20000"))
+        for words in ((), ("a", 1), ("a", 0, 1), ("a", 257, 1), ("a", 1, 9), ("a", *LONG)):
+            self.refused(run("basket", *words))

@@ -175,6 +175,8 @@ class PlainCheck(Folder):
             ('"cover":"line"', '"cover":[{"leaf":[]}]', "BatchShape"),
             ('"2/7"', '"4/14"', "Number"),
             ('"price":6', '"price":1000000000001', "Range"),
+            ('"2/7"', f'"2/{"7" * 5000}"', "Range"),
+            ('"surplus":"6/7"', f'"surplus":"-{"7" * 5000}"', "Range"),
             ('"side":"buy"', '"side":"bid"', "Shape"),
             ('"batch":', '"batch": ', "Spelling"),
             (measure, "", "Shape"),

@@ -81,6 +81,8 @@ class Schema(unittest.TestCase):
             ("guarded", '"margin":"10"', '"margin":"wide"'),
             ("guarded", '"need":"11"', '"need":"-1"'),
             ("serve", '"quantity":1', '"quantity":0'),
+            ("proposals", '"fill":"1/7"', '"fill":"0"'),
+            ("proposals", '"fill":"1/7"', '"fill":"-1/7"'),
             ("sessions", '"expected":3,"line":5', '"line":5'),
             ("sessions", '"line":11,"number":15', '"line":11,"number":16'),
             (
@@ -91,8 +93,9 @@ class Schema(unittest.TestCase):
         ):
             text = (TOP / f"examples/{word}.replies").read_text()
             line = next(it for it in text.splitlines() if old in it)
-            self.assertTrue(self.parts[word](json.loads(line)), line)
-            self.assertFalse(self.parts[word](json.loads(line.replace(old, new, 1))), new)
+            reads = self.parts[EXAMPLES[word]]
+            self.assertTrue(reads(json.loads(line)), line)
+            self.assertFalse(reads(json.loads(line.replace(old, new, 1))), new)
 
     def test_covers_of_lines_marked_bounded(self) -> None:
         reads = self.parts["serve"]

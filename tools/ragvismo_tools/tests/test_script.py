@@ -31,6 +31,7 @@ class Gate(Folder):
         edits = len(wrong_bodies.bodies(BY_GATE) + wrong_bodies.bodies(BY_HAND))
         self.assertEqual((ran.returncode, int(sums["wrong bodies"])), (0, edits), last)
         self.assertGreater(int(sums["proofs"]), int(sums["code"]))
+        self.assertEqual(int(sums["unused"]), 0, ran.stdout.decode())
         self.refused(run("house", self.folder))
 
     def test_wrong_bodies_fit_their_crates(self) -> None:
@@ -265,6 +266,16 @@ class Script(Folder):
             self.assertEqual(
                 "the program is crates/exchange_cli/out/exchange_cli" in said, not fault
             )
+
+    def test_build_without_room_says_so(self) -> None:
+        """And not that the program is built, though nothing of what the kit told was kept."""
+        self.script("rt", '#!/bin/sh\n[ "$1" = all ] || exit 1\n')
+        path = {"PATH": f"{self.folder}:{os.environ['PATH']}", "TMPDIR": str(self.folder / "none")}
+        ran = subprocess.run(
+            [TOP / "build", "--jobs", "1"], capture_output=True, env={**os.environ, **path}
+        )
+        self.assertEqual((ran.returncode, ran.stdout), (1, b""))
+        self.assertIn(b"there is no room for what rt tells", ran.stderr)
 
     def test_build_tells_its_use(self) -> None:
         self.assertEqual(

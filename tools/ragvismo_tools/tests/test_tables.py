@@ -5,10 +5,11 @@ from __future__ import annotations
 from collections.abc import Iterable
 from typing import Any
 import json
+import os
 import re
 
 from ragvismo_tools.places import TOP
-from ragvismo_tools.tests.common import Folder, run, wants
+from ragvismo_tools.tests.common import CELLED, Folder, run, wants
 
 
 class Tables(Folder):
@@ -79,6 +80,52 @@ class Tables(Folder):
             ran = run("table", changed, "--certificate", 1)
             self.assertEqual((ran.returncode, ran.stderr), (1, b""))
             self.assertIn(f"{told}, which fails", ran.stdout.decode().splitlines())
+
+    def test_places_and_states_that_are_none(self) -> None:
+        """They count nothing, and no line has them."""
+        text = (TOP / "examples/basket.replies").read_text()
+        for old, new, told in (
+            ('[{"at":2,', '[{"at":0,"by":"1"},{"at":2,', "  where it pays: leaf with 3 times"),
+            ('"measure":[', '"measure":[{"state":["0","0","0"],"weight":"1"},', "weight 1 along"),
+        ):
+            changed = "".join(text.replace(old, new).splitlines(True)[:14])
+            ran = run("table", "-", "--certificate", 1, input=changed.encode())
+            self.assertEqual((ran.returncode, ran.stderr), (1, b""))
+            [said] = [it for it in ran.stdout.decode().splitlines() if it.endswith("which fails")]
+            self.assertTrue(said.startswith(told), said)
+
+    def test_a_cover_by_cells(self) -> None:
+        about = "a tree of 3 nodes over classes of options bounds what is owed less what is due: "
+        for old, new, told in (
+            ("", "", "each leaf by at most the liability, and at most 0 for each price"),
+            (',3,"1"]', "]", "a leaf with the entries 0, 0, 1, which fails"),
+            (',{"leaf":[]}', "", "the tree ends before its leaves, which fails"),
+        ):
+            line = CELLED.replace(old, new, 1)
+            ran = run("table", "-", "--certificate", 1, input=line.encode())
+            self.assertEqual((ran.returncode, ran.stderr), (int("fails" in told), b""))
+            said = about.replace("3", str(3 - ("ends" in told))) + told
+            self.assertIn(said, ran.stdout.decode().splitlines())
+
+    def test_a_state_below_0(self) -> None:
+        """A put pays more than its strike at a price below 0, where no settlement is."""
+        line = (
+            '{"batch":1,"certificate":{"cover":"line","measure":[%s]},"fills":["0"],"liability":"0"'
+            ',"line":1,"mark":"optimal","market":1,"orders":[{"account":1,"form":[10,-1],"order":1,'
+            '"price":12,"quantity":1,"side":"buy"}],"reply":"cleared","surplus":"0",'
+            '"underlyings":1,"units":1,"version":1}'
+        )
+        for states, told in (
+            ('{"state":["1","-2"],"weight":"1"}', "mass 1 at the price -2"),
+            (
+                '{"state":["2","0"],"weight":"1"},{"state":["-1","-30"],"weight":"1"}',
+                "mass -1 at the price 30",
+            ),
+        ):
+            ran = run("table", "-", "--certificate", 1, input=(line % states).encode())
+            self.assertEqual((ran.returncode, ran.stderr), (1, b""))
+            said = ran.stdout.decode().splitlines()
+            self.assertEqual([it for it in said if "fails" in it], [f"{told}, which fails"])
 
     def test_bad_use(self) -> None:
         book = TOP / "examples/book.replies"
@@ -196,6 +243,15 @@ class Pictures(Folder):
         text, cleared = self.drawn("basket_of_three.replies")
         self.has_states(text, cleared[-1])
 
+    def test_without_git(self) -> None:
+        """Which a checkout that is run need not have: it tracks nothing then."""
+        journal, drawn = self.folder / "day.replies", self.folder / "day.svg"
+        journal.write_text((TOP / "examples/butterfly.replies").read_text())
+        drawn.write_text("of the day before")
+        ran = run("picture", journal, env={**os.environ, "PATH": "/none"}, cwd=self.folder)
+        self.assertEqual((ran.returncode, ran.stdout, ran.stderr), (0, b"day.svg\n", b""))
+        self.assertIn('id="curve"', drawn.read_text())
+
     def test_without_a_measure(self) -> None:
         text, _ = self.drawn("joint.replies")
         self.assertIn("no measure", text)
@@ -207,9 +263,11 @@ class Pictures(Folder):
         for words in (
             (),
             ("none",),
+            (".",),
             (broken,),
             (journal, "--batch", 2),
             (journal, "--out", "x.txt"),
             (journal, "--batch", "x"),
+            (journal, "--limits", 0, "inf"),
         ):
             self.refused(run("picture", *words, cwd=self.folder))

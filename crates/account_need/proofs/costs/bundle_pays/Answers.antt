@@ -1,5 +1,6 @@
 use Rattle.std.proofs.Common.{◌≡◌, ◌≤◌, ◌+◌, ℕ, ℤ, [], ◌∷◌, drop, get_or, length, pos, ◌+ℤ◌, ◌*ℤ◌, unsigned_abs, to_z, of_z, arith, ap, rules, sym, subst, ◌∙◌}
 use Rattle.std.proofs.lemmas.Int.{ints, fits_signed_from_abs, to_z-of_z}
+use Rattle.std.proofs.Math.IntN.{+ℤ_assoc}
 use mir.Syntax.{w64}
 use Rattle.arithmetic.proofs.Lists.{drop_map}
 use Rattle.form.specs.declared.legs.Leg.{Leg}
@@ -8,9 +9,6 @@ use Rattle.form.proofs.SameBundle.{length-legs_in}
 use Rattle.account_need.proofs.LineBits.{leg_bits}
 use Rattle.account_need.proofs.OnLine.{leg_small}
 use Rattle.account_need.proofs.costs.bundle_pays.Goals as goal
-
-one_more : (all X x R : ℤ) → all ≡ X +ℤ (x +ℤ R) → all ≡ (X +ℤ x) +ℤ R
-one_more all X x R e = omega (arith, ints, e)
 
 -- what the leg pays, as it is read, and its size
 counted : (c : goal.After-pays) → unsigned_abs c.leg-item.result.count ≤ 1000
@@ -59,6 +57,6 @@ loop-leg-preserved c =
     let here = ap (λ legs. bundle_payoff legs z) (drop_map leg_of (legs_in bundle) i leg (search rules) (search rules)) in
     let all = c.loop-leg.invariant.paid ∙ ap (λ (y : ℤ). X +ℤ y) (here ∙ ap (λ (h : ℕ). (leg.count *ℤ pos h) +ℤ R) (sym c.pays.ensures.pays)) in
     record {
-      paid = rw (read c, ex, es) (one_more (bundle_payoff (bundle_legs bundle) z) X x R all);
+      paid = rw (read c, ex, es) (all ∙ sym (+ℤ_assoc X x R));
       small = rw (read c, ex, es) (omega (arith, ints, size c, c.loop-leg.invariant.small));
     }

@@ -1,14 +1,12 @@
 use Rattle.std.proofs.Common.{◌≡◌, ◌+◌, ◌*◌, ◌<◌, ◌≤◌, ℤ, [], ◌∷◌, drop, length, map, ◌+ℤ◌, unsigned_abs, to_z, of_z, arith, ap, rules, sym, ◌∙◌}
 use Rattle.std.proofs.lemmas.Int.{ints, fits_signed_from_abs, to_z-of_z}
+use Rattle.std.proofs.Math.IntN.{+ℤ_assoc}
 use mir.Syntax.{w128}
 use Rattle.arithmetic.proofs.Lists.{drop_map}
 use Rattle.form.specs.declared.limits.TheConstants.{MAX_ORDERS}
 use Rattle.account_need.specs.Prices.{option_sum}
 use Rattle.account_need.specs.Rounded.{owed_of}
 use Rattle.account_need.proofs.exposure.owed.Goals as goal
-
-one_more : (all X x R : ℤ) → all ≡ X +ℤ (x +ℤ R) → all ≡ (X +ℤ x) +ℤ R
-one_more all X x R e = omega (arith, ints, e)
 
 pub loop-item-preserved : goal.loop-item-preserved
 loop-item-preserved c =
@@ -27,6 +25,6 @@ loop-item-preserved c =
     let here = ap (owed_of z) (drop_map option_sum sums i c.item-item.result lt (search rules)) in
     let all = c.loop-item.invariant.owed ∙ ap (λ (w : ℤ). X +ℤ w) (here ∙ ap (λ (w : ℤ). w +ℤ R) (sym c.amount_of-total.ensures.amount)) in
     record {
-      owed = rw (ex, es) (one_more (owed_of z (map option_sum sums)) X x R all);
+      owed = rw (ex, es) (all ∙ sym (+ℤ_assoc X x R));
       small = rw (ex, es) (omega (arith, ints, low, so_far));
     }

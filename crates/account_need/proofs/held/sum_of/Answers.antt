@@ -1,14 +1,12 @@
 use Rattle.std.proofs.Common.{◌≡◌, ◌^◌, ◌+◌, ◌*◌, ◌≤◌, ◌<◌, ℤ, drop, length, arith, ap, rules, sym, ◌∙◌, ◌+ℤ◌, unsigned_abs, to_z, of_z}
 use Rattle.std.proofs.lemmas.Int.{ints, fits_signed_from_abs, to_z-of_z}
+use Rattle.std.proofs.Math.IntN.{+ℤ_assoc}
 use mir.Syntax.{w128}
 use Rattle.arithmetic.specs.Sums.{total}
 use Rattle.arithmetic.proofs.Lists.{item_first}
 use Rattle.form.specs.Payoff.{option_of}
 use Rattle.account_need.specs.Rounded.{part_owed}
 use Rattle.account_need.proofs.held.sum_of.Goals as goal
-
-one_more : (all X x R : ℤ) → all ≡ X +ℤ (x +ℤ R) → all ≡ (X +ℤ x) +ℤ R
-one_more all X x R e = omega (arith, ints, e)
 
 pub loop-position-preserved : goal.loop-position-preserved
 loop-position-preserved c =
@@ -27,6 +25,6 @@ loop-position-preserved c =
     let here = ap (total part) (item_first ps i c.position-item.result lt (search rules)) in
     let all = c.loop-position.invariant.left ∙ ap (λ (z : ℤ). X +ℤ z) (here ∙ ap (λ (z : ℤ). z +ℤ R) (sym c.part_owed-total.ensures.part)) in
     record {
-      left = rw (ex, es) (one_more (total part ps) X x R all);
+      left = rw (ex, es) (all ∙ sym (+ℤ_assoc X x R));
       small = rw (ex, es) (omega (arith, ints, low, so_far));
     }

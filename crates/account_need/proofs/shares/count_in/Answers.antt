@@ -1,5 +1,6 @@
 use Rattle.std.proofs.Common.{◌≡◌, ◌≤◌, ◌+◌, ◌*◌, Bool, true, false, ℤ, drop, get_or, length, arith, ap, rules, sym, subst, ◌∙◌, pos, ◌+ℤ◌, unsigned_abs, to_z, of_z}
 use Rattle.std.proofs.lemmas.Int.{ints, fits_signed_from_abs, to_z-of_z}
+use Rattle.std.proofs.Math.IntN.{+ℤ_assoc}
 use mir.Syntax.{w16, w64}
 use Rattle.arithmetic.proofs.Lists.{drop_map}
 use Rattle.form.specs.declared.legs.Leg.{Leg}
@@ -9,9 +10,6 @@ use Rattle.form.proofs.SameBundle.{length-legs_in}
 use Rattle.account_need.specs.Rounded.{count_if, count_of}
 use Rattle.account_need.proofs.shares.count_in.Goals as goal
 use Rattle.account_need.proofs.shares.count_in.Goals.{then-is_same, else-is_same}
-
-one_more : (all X n R : ℤ) → all ≡ X +ℤ (n +ℤ R) → all ≡ (X +ℤ n) +ℤ R
-one_more all X n R e = omega (arith, ints, e)
 
 none_more : (all X R : ℤ) → all ≡ X +ℤ (pos 0 +ℤ R) → all ≡ X +ℤ R
 none_more all X R e = omega (arith, ints, e)
@@ -41,7 +39,7 @@ loop-leg-preserved c =
           let yes : is_same_option (option_of leg.form) v ≡ true = sym c.is_same.ensures ∙ w.if-is_same.true in
           record {
             left = subst (λ (z : ℤ). count_of v (bundle_legs bundle) ≡ z +ℤ R) (sym new)
-                (one_more (count_of v (bundle_legs bundle)) X n R (all ∙ ap (λ (b : Bool). X +ℤ (count_if b n +ℤ R)) yes));
+                (all ∙ ap (λ (b : Bool). X +ℤ (count_if b n +ℤ R)) yes ∙ sym (+ℤ_assoc X n R));
             small = subst (λ (z : ℤ). unsigned_abs z ≤ (i + 1) * 1000) (sym new) (omega (arith, ints, low, so_far));
           }
       | else-is_same w ↦

@@ -1,5 +1,4 @@
 use Rattle.std.proofs.Common.{◌≡◌, length, refl, ap, sym, ◌∙◌, subst, All}
-use Rattle.arithmetic.proofs.Sums.{All-head, All-tail}
 use Rattle.exact_num.specs.Steps.{fold_steps}
 use Rattle.form.proofs.Vectors.{length-option_of}
 use Rattle.frac.specs.Range.{limit}
@@ -11,6 +10,7 @@ use Rattle.cell_cover.specs.Rowed.{kinked_so_far, kinks_in, row_step, rows_in}
 use Rattle.cell_cover.proofs.Covered.{legs_have_entries}
 use Rattle.cell_cover.proofs.Rowing.{fold_on}
 use Rattle.std.proofs.lemmas.List.{length-map}
+use Rattle.std.proofs.lemmas.List.Elements.{All-head, All-tail}
 use Rattle.cell_cover.proofs.kinks.add_kinks.Goals as goal
 
 pub loop-leg-init : goal.loop-leg-init

@@ -1,11 +1,11 @@
 use Rattle.std.proofs.Common.{◌∙◌}
 use Rattle.std.proofs.lemmas.List.{drop_all}
+use Rattle.arithmetic.proofs.Lists.{number_next}
 use Rattle.exact_num.proofs.Loops.{goes_on, stops, ends}
 use Rattle.frac.specs.Range.{limit}
 use Rattle.frac.specs.Value.{fraction_of}
 use Rattle.cell_cover.specs.Kinked.{classes_as}
 use Rattle.cell_cover.specs.Walk.{add_full}
-use Rattle.cell_cover.proofs.Items.{number_next}
 use Rattle.cell_cover.proofs.Mixes.{kink_added}
 use Rattle.cell_cover.proofs.leaf.add_full.Goals as goal
 

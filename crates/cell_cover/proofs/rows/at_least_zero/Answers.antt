@@ -1,7 +1,7 @@
 use Rattle.std.proofs.Common.{◌≤◌, length, get_or, arith, ap, ◌∙◌, pos}
 use Rattle.exact_num.specs.Fraction.{whole}
+use Rattle.exact_num.specs.Tests.{greater_of}
 use Rattle.frac.specs.Value.{fraction_of}
-use Rattle.cell_cover.specs.Walk.{greater_of}
 use Rattle.cell_cover.proofs.RowLoops.{map_next, mapped_more}
 use Rattle.cell_cover.proofs.rows.at_least_zero.Goals as goal
 

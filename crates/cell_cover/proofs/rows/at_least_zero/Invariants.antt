@@ -1,7 +1,7 @@
 use Rattle.std.proofs.Common.{pos}
 use Rattle.exact_num.specs.Fraction.{whole}
+use Rattle.exact_num.specs.Tests.{greater_of}
 use Rattle.cell_cover.specs.Rows.{row_of}
-use Rattle.cell_cover.specs.Walk.{greater_of}
 use Rattle.cell_cover.proofs.RowLoops.{MappedTo}
 use Rattle.cell_cover.proofs.rows.at_least_zero.Given as goal
 

@@ -1,8 +1,8 @@
 use Rattle.std.proofs.Common.{◌∙◌, rules, length, map, sym, ap, subst, All}
 use Rattle.std.proofs.lemmas.List.{length-map}
+use Rattle.search_laws.proofs.Rounds.{fills_not_below}
 use Rattle.exact_num.specs.Fraction.{IsNotBelowZero}
 use Rattle.constraint_generation.specs.Readings.{reading_in_lists}
-use Rattle.search_laws.proofs.Rounds.{fills_not_below}
 use Rattle.constraint_generation.proofs.round.round.Goals as goal
 
 pub search_in-requires-clause-asked : goal.search_in-requires-clause-asked

@@ -1,11 +1,11 @@
 use Rattle.std.proofs.Common.{◌≡◌, ℕ, refl, sym, subst, arith}
 use Rattle.asked_lines.specs.Asked.{AskedState, asked_step, asking_first}
 use Rattle.asked_lines.specs.Standing.{StandsAsked}
-use Rattle.member_lines.specs.Ready.{AreReady}
+use Rattle.served_members.specs.MembersReady.{AreReady}
 use Rattle.program_words.specs.declared.requests.Served.TheVariants as served
-use Rattle.secured_lines.specs.Asked.{asked_line, secured_asks}
-use Rattle.secured_lines.specs.Output.{secured_line}
-use Rattle.secured_lines.specs.SecuredState.{SecuredState, empty_secured}
+use Rattle.served_members.specs.SecuredAsked.{asked_line, secured_asks}
+use Rattle.served_members.specs.SecuredOutput.{secured_line}
+use Rattle.served_members.specs.SecuredState.{SecuredState, empty_secured}
 use Rattle.served_members.specs.Members.{empty_members, member_body, member_question}
 use Rattle.served_members.proofs.Standing.{stands_first}
 use Rattle.session_lines.specs.Questions.{any_asks, session_asks}

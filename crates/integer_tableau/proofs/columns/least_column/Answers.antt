@@ -5,7 +5,8 @@ use Rattle.std.proofs.lemmas.Int.{to_z-of_z}
 use Rattle.simplex_run.specs.Choice.{Column}
 use Rattle.run_equivalence.specs.WholePivoting.{least_column}
 use Rattle.fraction_tableau.specs.Labels.{with_column}
-use Rattle.integer_tableau.proofs.Choosing.{column, column_more, no_column, inside_of}
+use Rattle.fraction_tableau.proofs.Choosing.{column}
+use Rattle.integer_tableau.proofs.Choosing.{column_more, no_column, inside_of}
 use Rattle.integer_tableau.proofs.columns.least_column.Goals as goal
 
 pub loop-place-init : goal.loop-place-init

@@ -1,4 +1,4 @@
-use Rattle.served_members.proofs.Secured.{owned_by_opening}
+use Rattle.served_members.proofs.Owners.{owned_by_opening}
 use Rattle.served_members.proofs.laws.owned_by_opening.Goals as goal
 
 pub returns : goal.returns

@@ -1,9 +1,10 @@
 use Rattle.std.proofs.Common.{◌≡◌, ◌+◌, [], ◌∷◌, ◌++◌, ◌∙◌, sym, ap, subst, arith, length, take, map, List, ℕ}
 use Rattle.std.specs.List.{All}
 use Rattle.std.proofs.lemmas.List.{length-append}
+use Rattle.std.proofs.lemmas.List.Elements.{All-push}
 use Rattle.simplex_run.specs.Places.{numbers}
 use Rattle.fraction_tableau.proofs.Filling.{numbers_last, slice_written}
-use Rattle.fraction_tableau.proofs.Starts.{row_given, all_more}
+use Rattle.fraction_tableau.proofs.Starts.{row_given}
 use Rattle.fraction_tableau.proofs.table.Table.row.Goals as goal
 
 pub returns-clause-program : goal.returns-clause-program
@@ -27,7 +28,7 @@ returns-clause-given g c =
     let last : length c.args.a.now + c.len.result ≡ n + m = omega (arith, c.requires.width, t.labels.ok, c.len.ensures) in
     let has_width : List g.row.N.Denot → Type 0 = λ row. length row ≡ t.rows.width in
     let line_width : length line ≡ t.rows.width = omega (arith, c.as_slice.ensures.len, t.line_room) in
-    let widths : All has_width new = subst (All has_width) (sym c.append.ensures.rows) (all_more has_width t.rows.rows line c.requires.given.widths line_width) in
+    let widths : All has_width new = subst (All has_width) (sym c.append.ensures.rows) (All-push has_width t.rows.rows line c.requires.given.widths line_width) in
     record {
       labels = c.requires.given.labels;
       basics =

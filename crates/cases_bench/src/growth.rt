@@ -1,4 +1,6 @@
-//! An exchange before and after a step that finds no memory.
+//! An exchange before and after a step that finds no memory: by the word `growth` it is taken
+//! through a session. Where the system refuses one growth (`tools/hostile growth`), a step that
+//! finds no memory changes nothing, and is done again.
 ghost use Rattle.command_text.specs.Within.{IsWithin};
 
 use anyhow::{Result, bail, ensure};
@@ -90,7 +92,7 @@ fn advance(alloc: Global, exchange: &mut Exchange, command: &Command) -> Result<
     take(exchange, command)
 }
 
-// Takes the exchange through the session.
+// Takes the exchange through the session, at whose end the house has 4.
 fn advance_all(alloc: Global, exchange: &mut Exchange) -> Result<()> {
     for line in &commands(alloc, SESSION.as_bytes())? {
         match &line.body {
@@ -98,15 +100,12 @@ fn advance_all(alloc: Global, exchange: &mut Exchange) -> Result<()> {
             _ => bail!("a command"),
         }
     }
+    ensure!(exchange.balance(0) == Some(4), "the house's balance");
     Ok(())
 }
 
-// With one growth refused by the system (`tools/hostile growth`) each step that finds no memory
-// changes nothing.
-#[test]
-fn a_refused_growth_changes_nothing(rt: HostRuntime) -> Result<()> {
+/// Takes a new exchange through the session.
+pub fn advance_session(rt: &HostRuntime) -> Result<()> {
     let mut exchange = Exchange::new(rt.alloc());
-    advance_all(rt.alloc(), &mut exchange)?;
-    assert!(rt; exchange.balance(0) == Some(4));
-    Ok(())
+    advance_all(rt.alloc(), &mut exchange)
 }
