@@ -2,13 +2,12 @@
 
 from __future__ import annotations
 
+import cProfile
 import gzip
-import importlib
 import io
 import pathlib
 import sys
 import tempfile
-import time
 import unittest
 from decimal import Decimal
 from fractions import Fraction
@@ -365,15 +364,15 @@ class Frames(unittest.TestCase):
         read = ragvismo.read_journal(TOP / "examples/proposals.replies", floats=True)
         self.assertAlmostEqual(read.batches.bound[0] - read.batches.surplus[0], 3 / 7)
 
-    def test_a_long_journal_is_read_in_time(self) -> None:
-        """A tenth of a million lines, and orders, in a tenth of ten seconds; four times that where
-        the machine is busy."""
+    def test_a_long_journal_is_read_in_few_calls(self) -> None:
+        """20 calls of functions for an order and the line that places it, of at most 40: they are
+        counted, since seconds depend on what else the machine does."""
         order = '{"account":1,"form":[-10,1],"order":%d,"price":6,"quantity":1,"side":"buy"}'
         placed, line = '{"line":%d,"order":%d,"reply":"placed"}\n', 0
         with tempfile.TemporaryDirectory() as folder:
             path = pathlib.Path(folder) / "long"
             with open(path, "w") as journal:
-                for batch in range(1, 401):
+                for batch in range(1, 41):
                     numbers = range(250 * batch - 249, 250 * batch + 1)
                     journal.writelines(
                         placed % (line + at, number) for at, number in enumerate(numbers, 1)
@@ -385,11 +384,12 @@ class Frames(unittest.TestCase):
                     rest = '"mark":"budget","market":1,"orders":[%s],"reply":"cleared"' % listed
                     rest += ',"surplus":"0","underlyings":1,"units":1,"version":1'
                     journal.write(f'{{"batch":{batch},{about},{rest}}}\n')
-            importlib.import_module("pandas")
-            start = time.process_time()
-            read = ragvismo.read_journal(path)
-            self.assertLess(time.process_time() - start, 4)
-        self.assertEqual((len(read.batches), len(read.orders), line), (400, 100_000, 100_400))
+            ragvismo.read_journal(TOP / "examples/demo.replies")  # imports what it wants
+            profile = cProfile.Profile()
+            read = profile.runcall(ragvismo.read_journal, path)
+            profile.create_stats()
+        self.assertEqual((len(read.batches), len(read.orders), line), (40, 10_000, 10_040))
+        self.assertLess(sum(it[1] for it in profile.stats.values()), 40 * len(read.orders))
 
     def fault(self, text: str) -> str:
         """What is said of a text that is no journal."""
