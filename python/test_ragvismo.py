@@ -228,7 +228,7 @@ class Models(unittest.TestCase):
             answers.chmod(0o700)
             clock = mock.Mock(monotonic=lambda: 3600 * hours[0])
             with mock.patch.object(program, "time", clock):
-                found = clear(butterfly(), solver=finds_nothing, timeout=60, path=answers)
+                found = clear(butterfly(), solver=finds_nothing, timeout=3_000, path=answers)
         self.assertEqual((found.surplus, hours), (Fraction(6, 7), [1]))
 
     def test_a_program_that_is_not_there(self) -> None:
