@@ -52,6 +52,7 @@ TOOLS = sorted(it.name for it in (TOP / "tools").iterdir() if it.is_file() and n
 WANTED = {
     "python3-jsonschema": "jsonschema",
     "python3-matplotlib": "matplotlib",
+    "python3-scipy": "scipy",
     "parallel": "parallel",
 }
 Tested = TypeVar("Tested", bound="Callable[..., Any]")

@@ -12,7 +12,7 @@ from fractions import Fraction
 from ragvismo_tools.piping import ends_of, piped
 from ragvismo_tools.places import PROGRAM, TOP
 from ragvismo_tools.solvers import Solver
-from ragvismo_tools.tests.common import PROPOSAL, Folder, built, run
+from ragvismo_tools.tests.common import PROPOSAL, Folder, built, run, wants
 
 
 @built
@@ -90,12 +90,12 @@ class Asked(unittest.TestCase):
 
 @built
 class Auction(Folder):
-    def cleared(self, *solvers: str) -> dict[str, Any]:
+    def cleared(self, *solvers: str, seconds: float = 3_600) -> dict[str, Any]:
         """The cleared line of the stopped clear with solvers beside it; the log tells the same
         replies again."""
         log = self.folder / "log"
         words = [word for solver in solvers for word in ("--solver", solver)]
-        ran = run("auction", *words, "--seconds", "0.5", "--log", log, input=STOPPED.encode())
+        ran = run("auction", *words, "--seconds", seconds, "--log", log, input=STOPPED.encode())
         self.assertEqual(ran.returncode, 0, ran.stderr)
         again = subprocess.run([PROGRAM, "serve"], input=log.read_bytes(), capture_output=True)
         self.assertEqual(again.stdout, ran.stdout)
@@ -112,7 +112,10 @@ class Auction(Folder):
             ((*bad, good), "bounded", "3/7"),
             ((good, *bad), "bounded", "3/7"),
         ):
-            reply = self.cleared(*map(str, solvers))
+            for seconds in (0.5, 8, 128):  # on a busy machine the good one wants more
+                reply = self.cleared(*map(str, solvers), seconds=seconds)
+                if reply["mark"] == mark:
+                    break
             self.assertEqual((reply["mark"], reply["surplus"]), (mark, surplus))
 
     def test_lines_are_answered_as_serve_does(self) -> None:
@@ -143,10 +146,11 @@ class Auction(Folder):
             given.close()
             self.assertEqual((told.read(), child.wait()), (b"", 0))
 
+    @wants("python3-scipy")
     def test_the_example_of_a_solver_answers_each_book(self) -> None:
         bought = "open,1\nmarket,1,1\nmarket,2,2\nbuy,1,1,put,10,0,1,1\nbook,2\nbook,1\n"
-        solver = str(TOP / "examples/solver.py")
-        ran = run("auction", "--solver", solver, input=f"{bought}clear,2,9\nclear,1,9\n".encode())
+        words, lines = ("--solver", TOP / "examples/solver.py"), "clear,2,9\nclear,1,9\n"
+        ran = run("auction", *words, "--seconds", 3_600, input=f"{bought}{lines}".encode())
         replies = [json.loads(it)["reply"] for it in ran.stdout.splitlines()]
         self.assertEqual(ran.stderr, b"")
         self.assertEqual(replies[-5:], ["book", "cleared", "book", "proposed", "cleared"])
