@@ -18,9 +18,9 @@ from ragvismo_tools.tests.common import Folder, run
 from ragvismo_tools.wrong_bodies import BY_GATE, BY_HAND
 
 
-# It tries a program that repeats its input, of which no more is read than comes within half a
-# second, as the kit does it.
-KIT = '#!/bin/sh\ntimeout 0.5 cat\necho "run=ended status=0" >&2\n'
+# It tries a program that repeats its input, of which no more is read than is there at once: the kit
+# does not wait long for the rest.
+KIT = '#!/bin/sh\ndd bs=65536 count=1 2>/dev/null\necho "run=ended status=0" >&2\n'
 
 
 class Gate(Folder):
