@@ -140,9 +140,8 @@ class Script(Folder):
             ' echo "${COMPREPLY[@]}"'
         )
         for begun, found in (("r", "run"), ("--v", "--version"), ("x", "")):
-            ran = subprocess.run(
-                ["bash", "-c", asked % (TOP / "exchange"), "", begun], capture_output=True
-            )
+            words = ["bash", "-c", asked % (TOP / "exchange"), "", begun]
+            ran = subprocess.run(words, capture_output=True, env={**os.environ, "LC_ALL": "C"})
             self.assertEqual((ran.stdout.decode().strip(), ran.stderr), (found, b""))
 
     def test_words_without_a_form(self) -> None:
