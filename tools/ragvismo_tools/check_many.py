@@ -67,7 +67,8 @@ def pieces(journal: str, given: argparse.Namespace) -> list[Answer]:
         f"--block={given.piece}",
         f"--jobs={given.jobs}",
     ]
-    environment = {**os.environ, "PARALLEL_SHELL": "/bin/sh"}
+    # Perl, in which it is written, would tell of a locale that is not there.
+    environment = {**os.environ, "LC_ALL": "C", "PARALLEL_SHELL": "/bin/sh"}
     ran = subprocess.run(
         [*command, *source, *spread, asked],
         capture_output=True,

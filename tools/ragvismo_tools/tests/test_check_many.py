@@ -51,11 +51,13 @@ class CheckMany(Folder):
 
     def agrees(self, journal: pathlib.Path, *words: object) -> None:
         """The report is that of check, byte for byte, and so are the status and the line on
-        standard error."""
+        standard error, also in a locale that is not there."""
+        elsewhere = {**os.environ, "HOME": str(self.folder), "LC_ALL": "none"}
         for program in self.programs:
             with open(journal) as given:
                 whole = subprocess.run([program, "check"], stdin=given, capture_output=True)
-            many = run("check-many", journal, "--program", program, *words)
+            asked = "--program", program, "--jobs", 4, *words
+            many = run("check-many", journal, *asked, env=elsewhere)
             self.assertEqual(
                 (many.stdout, many.returncode), (whole.stdout, whole.returncode), many.stderr
             )
