@@ -42,12 +42,12 @@ class Others(Folder):
         self.refused(told)
         self.assertIn(b"is tracked", told.stderr)
         drawn = TOP / "examples/butterfly.svg"
-        before, out = drawn.stat(), TOP / "trials/butterfly.svg"
+        before, out = drawn.stat().st_mtime_ns, TOP / "trials/butterfly.svg"
         told = run("picture", drawn.with_suffix(".replies"), cwd=TOP)
         self.assertEqual(
             (told.returncode, told.stdout, told.stderr), (0, b"trials/butterfly.svg\n", b"")
         )
-        self.assertEqual((drawn.stat(), out.read_bytes()[:5]), (before, b"<?xml"))
+        self.assertEqual((drawn.stat().st_mtime_ns, out.read_bytes()[:5]), (before, b"<?xml"))
         self.assertEqual(
             subprocess.run(["git", "check-ignore", "--quiet", out], cwd=TOP).returncode, 0
         )
