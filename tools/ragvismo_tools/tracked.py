@@ -2,12 +2,17 @@
 import pathlib
 import subprocess
 
+from ragvismo_tools.places import TOP
+
+# Git answers of the checkout also where it is another user's.
+GIT = ("git", "-c", f"safe.directory={TOP}")
+
 
 def is_tracked(path: pathlib.Path) -> bool:
     file = path.resolve()
     if not file.is_file():
         return False
-    command = ["git", "ls-files", "--error-unmatch", file.name]
+    command = [*GIT, "ls-files", "--error-unmatch", file.name]
     try:
         return subprocess.run(command, cwd=file.parent, capture_output=True).returncode == 0
     except FileNotFoundError:  # where there is no git it tracks nothing

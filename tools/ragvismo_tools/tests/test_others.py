@@ -8,6 +8,7 @@ import subprocess
 
 from ragvismo_tools.places import TOP
 from ragvismo_tools.tests.common import JOURNALS, TOOLS, Folder, has, run, wants
+from ragvismo_tools.tracked import GIT
 
 # A number of more digits than Python reads.
 LONG = ("9" * 5_000, 1)
@@ -38,19 +39,20 @@ class Others(Folder):
 
     @wants("python3-matplotlib")
     def test_no_tracked_file_is_written_over_unasked(self) -> None:
+        """And not where the checkout is another user's, as git is made to believe."""
         told = run("gate-times", "--save", TOP / "README.md")
         self.refused(told)
         self.assertIn(b"is tracked", told.stderr)
         drawn = TOP / "examples/butterfly.svg"
         before, out = drawn.stat().st_mtime_ns, TOP / "trials/butterfly.svg"
-        told = run("picture", drawn.with_suffix(".replies"), cwd=TOP)
+        other = {**os.environ, "GIT_TEST_ASSUME_DIFFERENT_OWNER": "1"}
+        told = run("picture", drawn.with_suffix(".replies"), cwd=TOP, env=other)
         self.assertEqual(
             (told.returncode, told.stdout, told.stderr), (0, b"trials/butterfly.svg\n", b"")
         )
         self.assertEqual((drawn.stat().st_mtime_ns, out.read_bytes()[:5]), (before, b"<?xml"))
-        self.assertEqual(
-            subprocess.run(["git", "check-ignore", "--quiet", out], cwd=TOP).returncode, 0
-        )
+        asked = [*GIT, "check-ignore", "--quiet", str(out)]
+        self.assertEqual(subprocess.run(asked, cwd=TOP).returncode, 0)
 
     def test_a_minus_is_standard_input(self) -> None:
         """Wherever a tool reads a file of lines, and of nothing else."""
