@@ -50,11 +50,11 @@ def main() -> None:
     words.add_argument("--title", metavar="TEXT")
     words.add_argument("--out", type=pathlib.Path, metavar="FILE.svg")
     given = words.parse_args()
+    logging.getLogger("matplotlib").setLevel(logging.ERROR)  # it warns while it is imported too
     try:
         import matplotlib
     except ImportError:
         raise BadUse("python3-matplotlib is missing; tools/setup installs it") from None
-    logging.getLogger("matplotlib").setLevel(logging.ERROR)
     matplotlib.use("Agg")
     batch = journals.read_batch(str(given.journal), given.batch)
     out = given.out or place_for(given.journal)

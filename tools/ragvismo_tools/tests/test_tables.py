@@ -244,11 +244,13 @@ class Pictures(Folder):
         self.has_states(text, cleared[-1])
 
     def test_without_git(self) -> None:
-        """Which a checkout that is run need not have: it tracks nothing then."""
+        """Which a checkout that is run need not have: it tracks nothing then. And without a folder
+        in which matplotlib keeps what it found."""
         journal, drawn = self.folder / "day.replies", self.folder / "day.svg"
         journal.write_text((TOP / "examples/butterfly.replies").read_text())
         drawn.write_text("of the day before")
-        ran = run("picture", journal, env={**os.environ, "PATH": "/none"}, cwd=self.folder)
+        bare = {**os.environ, "PATH": "/none", "MPLCONFIGDIR": "/dev/null/none"}
+        ran = run("picture", journal, env=bare, cwd=self.folder)
         self.assertEqual((ran.returncode, ran.stdout, ran.stderr), (0, b"day.svg\n", b""))
         self.assertIn('id="curve"', drawn.read_text())
 
