@@ -12,9 +12,13 @@ program that RAGVISMO_EXCHANGE names, or else that one.
 from __future__ import annotations
 
 import concurrent.futures
+import contextlib
 import importlib
 import io
+import os
+import subprocess
 import sys
+import tempfile
 import time
 import unittest
 from collections.abc import Iterator
@@ -78,6 +82,17 @@ def ran(name: str) -> tuple[str, list[str]]:
     return faults, [reason for _, reason in result.skipped]
 
 
+@contextlib.contextmanager
+def fonts_found() -> Iterator[None]:
+    """With the fonts that matplotlib finds kept in a folder of this run: tests that had to find
+    them side by side would wait 5 seconds for one another, and then fail."""
+    with tempfile.TemporaryDirectory() as folder:
+        os.environ["MPLCONFIGDIR"] = folder
+        find = [sys.executable, "-c", "import matplotlib.font_manager"]
+        subprocess.run(find, capture_output=True)
+        yield
+
+
 def main() -> int:
     if sys.argv[1:] == ["--help"]:
         print(__doc__)
@@ -85,7 +100,7 @@ def main() -> int:
     start, names = time.time(), chosen(sys.argv[1:])
     faults = 0
     skipped: dict[str, int] = {}
-    with concurrent.futures.ProcessPoolExecutor() as pool:
+    with fonts_found(), concurrent.futures.ProcessPoolExecutor() as pool:
         for said, reasons in pool.map(ran, names):
             print(said, end="", file=sys.stderr, flush=True)
             faults += bool(said)
