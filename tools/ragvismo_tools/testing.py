@@ -100,7 +100,8 @@ def main() -> int:
     start, names = time.time(), chosen(sys.argv[1:])
     faults = 0
     skipped: dict[str, int] = {}
-    with fonts_found(), concurrent.futures.ProcessPoolExecutor() as pool:
+    processors = len(os.sched_getaffinity(0))
+    with fonts_found(), concurrent.futures.ProcessPoolExecutor(processors) as pool:
         for said, reasons in pool.map(ran, names):
             print(said, end="", file=sys.stderr, flush=True)
             faults += bool(said)
