@@ -31,7 +31,7 @@ FUNDS = 10**15
 # So many samples with replacement, of which the middle 95 percent are an interval.
 SAMPLES = 2_000
 # So many seconds a scheduler has to answer.
-PATIENCE = 10
+PATIENCE = 120
 # Twice the width of a column: set into one, letters have half this size.
 WIDTH, HEIGHT, LETTERS = 6.8, 2.7, 13
 CaseOf = TypeVar("CaseOf", bound=Hashable)

@@ -213,7 +213,7 @@ import pickle
 
 class Client:
     def __init__(self, address, timeout):
-        assert (address, timeout) == ("tcp://here:8786", 10)
+        assert (address, timeout) == ("tcp://here:8786", 120)
 
     def __enter__(self):
         return self
@@ -232,6 +232,10 @@ class Client:
         return [pickle.loads(answers[it]) for it in sent]
 """
 
+# The parts of dask wait so long for one another, and are not stopped for the memory they take.
+PATIENT = {f"DASK_DISTRIBUTED__COMM__TIMEOUTS__{it}": "600s" for it in ("CONNECT", "TCP")}
+WORKER = ("--nthreads", 1, "--no-nanny", "--memory-limit", 0)
+
 
 class Machines(unittest.TestCase):
     """Studies by the workers of dask.distributed, and by what stands in for it."""
@@ -245,7 +249,7 @@ class Machines(unittest.TestCase):
         self, *words: str, study: str = "strikes", path: str = ""
     ) -> "subprocess.CompletedProcess[str]":
         command = [PYTHON, "-B", str(HERE / f"{study}.py"), "--batches", "2", *words]
-        environment = {**os.environ, "PYTHONPATH": path}
+        environment = {**os.environ, **PATIENT, "PYTHONPATH": path}
         return subprocess.run(command, capture_output=True, text=True, env=environment)
 
     def written(
@@ -263,9 +267,8 @@ class Machines(unittest.TestCase):
         paths = os.pathsep.join(str(TOP / it) for it in ("studies", "python", "tools"))
         module = ["-m", f"distributed.cli.{name}", "--no-dashboard"]
         command = [PYTHON, "-B", *module, *map(str, words)]
-        process = subprocess.Popen(
-            command, stderr=subprocess.DEVNULL, env={**os.environ, "PYTHONPATH": paths}
-        )
+        environment = {**os.environ, **PATIENT, "PYTHONPATH": paths}
+        process = subprocess.Popen(command, stderr=subprocess.DEVNULL, env=environment)
         self.addCleanup(process.wait)
         self.addCleanup(process.terminate)
         return process
@@ -275,8 +278,9 @@ class Machines(unittest.TestCase):
         told = self.folder / "scheduler.json"
         self.begun("dask_scheduler", "--host", "127.0.0.1", "--port", 0, "--scheduler-file", told)
         for _ in range(2):
-            self.begun("dask_worker", "--scheduler-file", told, "--nthreads", 1, "--no-nanny")
-        for _ in range(300):
+            place = "--scheduler-file", told, "--local-directory", self.folder
+            self.begun("dask_worker", *place, *WORKER)
+        for _ in range(6_000):
             if told.exists() and told.read_text().endswith("}"):
                 break
             time.sleep(0.1)
