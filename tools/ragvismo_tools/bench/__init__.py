@@ -102,11 +102,11 @@ def main() -> None:
     asked = words()
     given = asked.parse_args()
     timing.RUNS = 1 if given.quick else given.runs
+    for name in given.tables or FIRST:
+        printed(name, given, asked)
     if not os.access(timing.TIME, os.X_OK):
         why = f"there is no {timing.TIME} (Debian's package time)"
         print(f"bench: memory is left out, and stands as 0: {why}", file=sys.stderr)
-    for name in given.tables or FIRST:
-        printed(name, given, asked)
 
 
 def run() -> int:
