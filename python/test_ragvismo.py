@@ -570,6 +570,7 @@ class Clearing(unittest.TestCase):
             **os.environ,
             "PYTHONPATH": str(TOP / "python"),
             "MPLBACKEND": "Agg",
+            "COLUMNS": "80",
             "PYTHONDONTWRITEBYTECODE": "1",
         }
         command = [PYTHON, "-c", source]
