@@ -73,12 +73,9 @@ class Solver:
         then it is stopped."""
         try:
             self.start()
-            left, until = book, time.monotonic() + seconds
-            while (
-                b"\n" not in self.answer
-                and len(self.answer) <= MOST_BYTES
-                and time.monotonic() < until
-            ):
+            left, until, is_late = book, time.monotonic() + seconds, False
+            while b"\n" not in self.answer and len(self.answer) <= MOST_BYTES and not is_late:
+                is_late = time.monotonic() >= until  # what the pipe holds came in time
                 left = self.turn(left, until)
         except OSError:
             self.stop("could not be asked")

@@ -5,9 +5,11 @@ from __future__ import annotations
 from typing import Any
 import json
 import math
+import select
 import subprocess
 import unittest
 from fractions import Fraction
+from unittest import mock
 
 from ragvismo_tools.piping import ends_of, piped
 from ragvismo_tools.places import PROGRAM, TOP
@@ -85,6 +87,20 @@ class Asked(unittest.TestCase):
         solver = Solver(["cat"])
         for seconds in (3_600, 1e12, math.inf):
             self.assertEqual(solver.line_for(b"book\n", seconds), b"book")
+        solver.stop()
+
+    def test_an_answer_in_time_counts_though_it_is_read_late(self) -> None:
+        """The clock stands until the book is given, and then waits for the answer to go on."""
+        solver, times = Solver(["cat"]), [0, 0, 0]
+
+        def late() -> float:
+            if times:
+                return times.pop()
+            select.select([solver.told], [], [])
+            return 99
+
+        with mock.patch("ragvismo_tools.solvers.time", mock.Mock(monotonic=late)):
+            self.assertEqual(solver.line_for(b"book\n", 60), b"book")
         solver.stop()
 
 
