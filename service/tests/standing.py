@@ -74,11 +74,25 @@ def knows_members(program: pathlib.Path) -> bool:
     return subprocess.run(words, stdin=subprocess.DEVNULL, capture_output=True).returncode == 0
 
 
+# The names of the ports that tests of this process were given, which are held until it ends.
+HELD: list[socket.socket] = []
+
+
 def free_port() -> int:
-    with socket.socket() as one:
-        one.bind(("127.0.0.1", 0))
-        port: int = one.getsockname()[1]
+    """A port that nobody else takes: other tests see that its name is held, and below 32768 the
+    system gives none to a client or to who asks for any."""
+    for port in random.sample(range(10_000, 30_000), 1_000):
+        name = socket.socket(socket.AF_UNIX)
+        try:
+            name.bind(f"\0ragvismo-port-{port}")
+            with socket.socket() as one:
+                one.bind(("127.0.0.1", port))
+        except OSError:
+            name.close()
+            continue
+        HELD.append(name)
         return port
+    raise OSError("no port is free")
 
 
 class Service(unittest.TestCase):
