@@ -99,7 +99,8 @@ class Service(unittest.TestCase):
     """A Redis of its own, and sequencers."""
 
     def setUp(self) -> None:
-        held = tempfile.TemporaryDirectory(prefix="ragvismo-service-")
+        # What has been killed may have children that write there yet.
+        held = tempfile.TemporaryDirectory(prefix="ragvismo-service-", ignore_cleanup_errors=True)
         self.addCleanup(held.cleanup)
         self.folder = pathlib.Path(held.name)
         self.program = Given.program
