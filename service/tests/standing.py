@@ -194,7 +194,7 @@ class Service(unittest.TestCase):
         return int(children.read_text().split()[0])
 
     def session(self, number: int, first: int = 1) -> Session:
-        return Session(self.place, number, first)
+        return Session(self.place, number, first, patience=600)
 
     def append(self, **fields: Any) -> bytes:
         id: bytes = self.redis.xadd("ragvismo:in", fields)
@@ -281,14 +281,19 @@ class Service(unittest.TestCase):
 
     def until_told(self, watch: subprocess.Popen[str], said: str) -> None:
         """Waits until a watch says that."""
-        assert watch.stdout
-        while said not in (line := watch.stdout.readline()):
+
+        def is_told() -> bool:
+            assert watch.stdout
+            line = watch.stdout.readline()
             self.assertTrue(line, f"it ended before it said {said}")
+            return said in line
+
+        self.until(is_told)
 
     def tool(self, name: str, *words: object, **more: Any) -> subprocess.CompletedProcess[str]:
         at = [] if "--at" in words else self.at
         command = [str(HERE / name), *at, *map(str, words)]
-        return subprocess.run(command, capture_output=True, text=True, timeout=120, **more)
+        return subprocess.run(command, capture_output=True, text=True, timeout=600, **more)
 
     def tool_ends(self, status: Status, said: str, name: str, *words: object) -> None:
         """A tool ends with a status and one line on standard error."""
