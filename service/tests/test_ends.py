@@ -89,14 +89,14 @@ class Ends(Service):
         handed over."""
         self.start_sequencer()
         self.session(7).ask("open,1")
-        waits = self.script(
-            "waits",
-            f'#!/bin/sh\ntouch {self.folder}/asked\nsleep 2\nexec {self.program} "$@"\n',
-        )
+        asked = self.folder / "asked"
+        wait = f"touch {asked}\nwhile [ -e {asked} ]; do sleep 0.1; done\n"
+        waits = self.script("waits", f'#!/bin/sh\n{wait}exec {self.program} "$@"\n')
         words = [str(HERE / "rehearse"), str(waits), "--at", str(self.port), "--switch"]
         with subprocess.Popen(words, stdout=subprocess.PIPE, text=True) as rehearsal:
-            self.until((self.folder / "asked").exists)
+            self.until(asked.exists)
             self.session(7, 2).ask("open,2")
+            asked.unlink()
             told = rehearsal.communicate(timeout=120)[0]
         self.assertEqual(
             told, "2 answers are the same\nthe exchange is answered by this program now\n"
