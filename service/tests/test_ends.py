@@ -144,11 +144,13 @@ class Ends(Service):
         self.assertEqual(self.published(), [])
 
     def test_the_program_hangs(self) -> None:
+        """From its first message on, since in so little time a slow machine answers none."""
         sequencer = self.start_sequencer(None, "--patience", "1")
-        self.session(7).ask("open,1")
+        # Its program runs by then.
+        self.until(lambda: bool(self.redis.exists("ragvismo:program")))
         program = self.program_of(sequencer)
         os.kill(program, signal.SIGSTOP)
-        self.append(session=7, number=2, body="open,2")
+        self.append(session=7, number=1, body="open,1")
         self.ends(sequencer, Status.HANGS, "the program answered nothing for 1 s")
         self.until(lambda: not pathlib.Path(f"/proc/{program}").exists())
         self.start_sequencer()
