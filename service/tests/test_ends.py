@@ -195,7 +195,8 @@ class Ends(Service):
         self.until(self.all_answered)
         self.assertEqual(self.published(), self.computed())
         if more:
-            self.assertEqual(watch.wait(30), Status.LOST)
+            watch.communicate(timeout=120)
+            self.assertEqual(watch.returncode, Status.LOST)
 
     def test_a_log_that_lost_its_end(self) -> None:
         self.lose_end()
