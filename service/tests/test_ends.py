@@ -10,7 +10,6 @@ import signal
 import socket
 import subprocess
 import sys
-import time
 from unittest import mock
 
 import redis
@@ -204,12 +203,17 @@ class Ends(Service):
     def test_a_log_that_lost_its_end_and_went_on(self) -> None:
         self.lose_end("open,3", "open,4")
 
+    def reads(self) -> int:
+        """How often a sequencer has read the log."""
+        return int(self.redis.info("commandstats")["cmdstat_xrange"]["calls"])
+
     def test_a_log_that_lost_an_answer(self) -> None:
         """And not the message, so that nothing was taken out."""
         sequencer = self.start_sequencer()
         self.session(7).ask("open,1")
-        # It has been told by then that the answer stands.
-        time.sleep(1.5)
+        # Who reads again was told with the read before that the answer stands.
+        reads = self.reads()
+        self.until(lambda: self.reads() >= reads + 2)
         os.kill(sequencer.pid, signal.SIGSTOP)
         self.cut_log(b"chain")
         self.assertEqual((self.redis.xlen("ragvismo:in"), self.redis.xlen("ragvismo:out")), (1, 0))
@@ -245,7 +249,7 @@ class Ends(Service):
         self.cut_log(b"open,1")
         self.append(session=8, number=1, body="open,8")
         self.start_sequencer()
-        self.assertEqual(begin.wait(60), 0)
+        self.assertEqual(begin.wait(120), 0)
         self.assertEqual([it.text for it in self.entries()][1:], path.read_bytes().splitlines())
 
     def test_a_cut_append(self) -> None:
