@@ -261,8 +261,8 @@ class Ends(Service):
         self.assertEqual(self.published(), self.computed())
 
     def test_a_full_disk(self) -> None:
-        """Redis ends where it cannot write, and nothing that it did not write is told or
-        answered."""
+        """Redis ends where it cannot write, and nothing that it did not write is told or answered:
+        a sequencer goes on when it is there again, and one that waits for less long has ended."""
         self.stop_redis()
         room = (
             "import resource, os, sys; resource.setrlimit(resource.RLIMIT_FSIZE, (20000, 20000));"
@@ -272,20 +272,22 @@ class Ends(Service):
             [sys.executable, "-c", room, *self.redis_words()], restore_signals=False
         )
         self.until(self.answers)
-        sequencer, told = self.start_sequencer(None, "--patience", "1"), []
+        sequencer, told = self.start_sequencer(None, "--patience", "600"), []
         try:
             for number in range(1, 1000):
                 told.append(self.append(session=7, number=number, body="open,1"))
         except redis.ConnectionError:
             pass
-        self.ends(sequencer, Status.NO_REDIS, "no Redis answers")
-        self.server.wait()
+        self.server.wait(120)
+        # Its program is asked nothing, which in so little time a slow machine does not answer.
+        other = self.start_sequencer(None, "--patience", "1")
+        self.ends(other, Status.NO_REDIS, "no Redis answers")
         self.start_redis()
         taken = [id for id, _ in self.redis.xrange("ragvismo:in")]
         self.assertEqual(taken[: len(told)], told)
-        self.start_sequencer()
         self.until(self.all_answered)
         self.assertEqual(self.published(), self.computed())
+        self.assertIsNone(sequencer.poll())
 
     def test_memory_that_is_full(self) -> None:
         self.append(session=7, number=1, body="open,1")
