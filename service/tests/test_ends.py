@@ -306,7 +306,7 @@ class Ends(Service):
             self.append(session=7, number=number, body=b"x" * (3 << 20))
         self.redis.config_set("client-output-buffer-limit", f"normal {24 << 20} 0 0")
         sequencer = self.start_sequencer()
-        self.until(self.all_answered)
+        self.until(self.all_answered, 600)
         status = pathlib.Path(f"/proc/{sequencer.pid}/status").read_text()
         [most] = [int(line.split()[1]) for line in status.splitlines() if line.startswith("VmHWM")]
         self.assertLess(most, 120_000)
@@ -321,11 +321,11 @@ class Ends(Service):
         for _ in range(3):
             self.append(session=7, number=1, body=b"x" * 1_280_000)
         self.redis.config_set("client-output-buffer-limit", "normal 2880000 0 0")
-        self.start_sequencer(None, "--patience", "5")
-        self.until(lambda: bool(self.redis.xlen("ragvismo:out") == 303), 30)
+        self.start_sequencer()
+        self.until(lambda: bool(self.redis.xlen("ragvismo:out") == 303))
         for _ in range(3):
             self.append(session=7, number=1, body=b"x" * 1_280_000)
-        self.until(lambda: bool(self.redis.xlen("ragvismo:out") == 306), 30)
+        self.until(lambda: bool(self.redis.xlen("ragvismo:out") == 306))
         self.redis.config_set("client-output-buffer-limit", "normal 0 0 0")
         self.assertEqual(self.published(), self.computed())
 
