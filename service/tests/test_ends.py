@@ -10,6 +10,7 @@ import signal
 import socket
 import subprocess
 import sys
+import time
 from unittest import mock
 
 import redis
@@ -335,10 +336,12 @@ class Ends(Service):
         self.start_sequencer()
         self.until(self.all_answered)
         session, told = self.session(8), "total_net_output_bytes"
-        before = self.redis.info("stats")[told]
+        before, since = self.redis.info("stats")[told], time.monotonic()
         for number in range(1, 101):
             session.ask(f"open,{number}")
-        self.assertLess(self.redis.info("stats")[told] - before, 50 << 20)
+        # Redis tells it thrice a second while it is the last one too, and once when it is not.
+        most = 10 + 3 * (time.monotonic() - since)
+        self.assertLess((self.redis.info("stats")[told] - before) / (1 << 20), most)
 
     def test_what_is_logged(self) -> None:
         self.append(session=7, number=1, body="open,1")
