@@ -52,10 +52,12 @@ class Ends(Service):
         self.assertEqual((kinds[-2]["reason"], kinds[-1]["of"]["line"]), ("Malformed", 2))
         self.assertRegex(self.tool("verify").stdout, "^10 answers hold, to ")
         self.assertEqual(self.tool("journal", self.folder / "journal").returncode, 0)
-        [messages] = (self.folder / "journal").glob("*.messages")
-        self.assertLess(messages.stat().st_size, 1000)
+        # There are two where a day ends meanwhile.
+        messages = (self.folder / "journal").glob("*.messages")
+        self.assertLess(sum(it.stat().st_size for it in messages), 1000)
         self.assertRegex(
-            self.tool("journal", self.folder / "journal", "--verify").stdout, "^1 segments stand: "
+            self.tool("journal", self.folder / "journal", "--verify").stdout,
+            "^[12] segments stand: ",
         )
 
     def test_another_answer(self) -> None:

@@ -359,4 +359,4 @@ class Log(Service):
             (other.returncode, other.stderr.count("\n")), (Status.LOST, 1), other.stderr
         )
         self.assertEqual((folder / "segments").read_bytes(), listed)
-        self.assertEqual(json.loads(listed)["head"], self.heads()[-1])
+        self.assertEqual(json.loads(listed.splitlines()[-1])["head"], self.heads()[-1])
