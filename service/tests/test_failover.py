@@ -22,8 +22,14 @@ from ragvismo_service.words import password
 from tests.standing import HERE, Given, Service, Trader, free_port
 
 GROUP = "ragvismo"
-# What the sentinel does every few seconds it does ten times a second here.
-SOON = [f"{what}-PERIOD 100" for what in ("INFO", "PING", "PUBLISH", "ASK", "MIN-LINK-RECONNECT")]
+# What the sentinel does every few seconds it does ten times a second here, and after it stood still
+# itself it does no less. The copy that takes the place of a master has to have told of itself in
+# the time of five pings, and does so once a second then.
+OFTEN = "INFO", "PUBLISH", "ASK", "MIN-LINK-RECONNECT", "TILT"
+SOON = ["PING-PERIOD 500", *(f"{what}-PERIOD 100" for what in OFTEN)]
+# How long a master may be silent, in milliseconds: one that is slow, and one that is killed. The
+# sentinel itself may stand still for ten times as long.
+SLOW, KILLED = 3_600_000, 3_000
 
 
 def shipped(name: str) -> dict[str, object]:
@@ -94,8 +100,8 @@ class Failover(Service):
             "port 26380": f"port {self.sentinel_port}\ndir {self.folder}\nlogfile sentinel.log",
             "HOST 6380 2": f"127.0.0.1 {self.ports[0]} 1",
             "PASSWORD": password(str(self.users / "sentinel.password")),
-            "milliseconds ragvismo 5000": "milliseconds ragvismo 500",
-            "timeout ragvismo 30000": "timeout ragvismo 1000",
+            "milliseconds ragvismo 5000": f"milliseconds ragvismo {SLOW}",
+            "timeout ragvismo 30000": "timeout ragvismo 3000",
         }.items():
             self.assertEqual(text.count(here), 1)
             text = text.replace(here, there)
@@ -104,6 +110,7 @@ class Failover(Service):
         self.sentinel = redis.Redis(port=self.sentinel_port)
         self.until(self.sentinel_answers)
         self.sentinel.execute_command("SENTINEL DEBUG", *" ".join(SOON).split())
+        self.until(lambda: bool(self.sentinel.sentinel_slaves(GROUP)))
 
     def sentinel_answers(self) -> bool:
         try:
@@ -117,7 +124,7 @@ class Failover(Service):
             server.wait()
 
     def master(self) -> int:
-        return int(self.sentinel.sentinel_get_master_addr_by_name(GROUP)[1])
+        return int(self.sentinel.sentinel_master(GROUP)["port"])
 
     def other(self, port: int) -> int:
         return self.ports[1 - self.ports.index(port)]
@@ -131,6 +138,18 @@ class Failover(Service):
         except redis.RedisError:
             return False
         return bool(told["role"] == "master" and told.get("min_slaves_good_slaves") == 1)
+
+    def kill_master(self) -> int:
+        """Kills the master, whose place the other takes, which may have been stopped; tells which
+        it was."""
+        old = self.master()
+        self.sentinel.sentinel_set(GROUP, "down-after-milliseconds", KILLED)
+        self.servers[old].kill()
+        self.servers[old].wait()
+        os.kill(self.servers[self.other(old)].pid, signal.SIGCONT)
+        self.until(lambda: self.master() == self.other(old))
+        self.sentinel.sentinel_set(GROUP, "down-after-milliseconds", SLOW)
+        return old
 
     def append_to_one(self, session: Session, body: bytes) -> int:
         """Appends what the other Redis does not take, as it is stopped; no answer comes."""
@@ -153,17 +172,15 @@ class Failover(Service):
     def test_what_one_redis_had_alone(self) -> None:
         """A message that is longer than what is on its way to the other is lost with the master: it
         was not answered, and all goes on without it, as who had read it does."""
-        sequencer, old = self.start_sequencer(), self.master()
+        sequencer = self.start_sequencer()
         user = ["--at", f"redis://watch@{GROUP}", "--password", f"{self.users}/watch.password"]
         watch = self.start_watch(*user, "--sentinel", str(self.sentinel_port))
         session = self.session(7, 1)
         session.ask("open,1")
-        copy = self.append_to_one(session, b"x" * (15 << 20))
+        self.append_to_one(session, b"x" * (15 << 20))
         self.until_told(watch, "2 entries, 1 not answered")
-        self.servers[old].kill()
-        os.kill(copy, signal.SIGCONT)
-        self.until(lambda: self.master() == self.other(old))
-        self.start_one(old, "--replicaof", "127.0.0.1", str(self.master()))
+        old = self.kill_master()
+        self.start_one(old, "--replicaof", "127.0.0.1", str(self.other(old)))
         self.assertEqual(session.ask("open,2")["line"], 2)
         self.assertEqual((self.redis.xlen("ragvismo:in"), sequencer.poll()), (2, None))
         self.assertEqual(self.published(), self.computed())
@@ -172,12 +189,9 @@ class Failover(Service):
     def replace_master(self) -> None:
         """Kills the master; the other takes its place, and it comes again, now and then as the
         master that it was."""
-        old = self.master()
-        self.until(lambda: self.is_whole(old))
+        self.until(lambda: self.is_whole(self.master()))
         time.sleep(self.random.uniform(0, 1))
-        self.servers[old].kill()
-        self.servers[old].wait()
-        self.until(lambda: self.master() == self.other(old))
+        old = self.kill_master()
         as_copy = ["--replicaof", "127.0.0.1", str(self.other(old))]
         self.start_one(old, *(as_copy if self.random.random() < 0.7 else []))
         self.until(lambda: self.is_whole(self.other(old)))
