@@ -130,14 +130,17 @@ class Failover(Service):
         return self.ports[1 - self.ports.index(port)]
 
     def is_whole(self, port: int) -> bool:
-        """Whether the Redis at a port is a master with a copy that has caught up."""
+        """Whether the Redis at a port is a master with a copy that has caught up, by what both of
+        them tell: a master counts one that has not loaded yet what was sent to it."""
         try:
-            told = redis.Redis(connection_pool=pool_at(self.user("watch", port))).info(
-                "replication"
+            master, copy = (
+                redis.Redis(connection_pool=pool_at(self.user("watch", it))).info("replication")
+                for it in (port, self.other(port))
             )
         except redis.RedisError:
             return False
-        return bool(told["role"] == "master" and told.get("min_slaves_good_slaves") == 1)
+        told = master["role"], master.get("min_slaves_good_slaves"), copy.get("master_link_status")
+        return told == ("master", 1, "up")
 
     def kill_master(self) -> int:
         """Kills the master, whose place the other takes, which may have been stopped; tells which
