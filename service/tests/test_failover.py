@@ -9,11 +9,12 @@ import re
 import signal
 import subprocess
 import time
+from unittest import mock
 
 import redis
 
 from client import Session
-from ragvismo_service import backups, users
+from ragvismo_service import backups, connecting, users
 from ragvismo_service.chain import FIRST_HEAD
 from ragvismo_service.connecting import pool_at, pool_of
 from ragvismo_service.places import Place
@@ -39,6 +40,13 @@ def shipped(name: str) -> dict[str, object]:
 
 class Failover(Service):
     """An exchange in a group of two Redis."""
+
+    def setUp(self) -> None:
+        # Much is asked but once here, of Redis and of the sentinel, which may be slow.
+        patched = mock.patch.multiple(connecting, WATCHED_REPLY=120, SENTINEL_REPLY=120)
+        patched.start()
+        self.addCleanup(patched.stop)
+        super().setUp()
 
     def start_redis(self) -> None:
         self.users = self.folder / "users"
@@ -84,6 +92,8 @@ class Failover(Service):
             "aclfile": self.users / "users.acl",
             "masterauth": password(str(self.users / "replica.password")),
             "repl-diskless-sync-delay": 0,
+            # A copy that is stopped counts as one, however long a test takes then.
+            "min-replicas-max-lag": 3600,
         }
         (own / "redis.conf").write_text(
             "".join(f"{key} {value}\n" for key, value in settings.items())
@@ -209,7 +219,7 @@ class Failover(Service):
             self.replace_master()
         for trader in traders:
             trader.is_stopped = True
-            trader.join(120)
+            trader.join(600)
             self.assertFalse(trader.is_alive() or trader.fault, repr(trader.fault))
         self.assertEqual([it.poll() for it in self.sequencers], [None, None])
         self.check(traders)
