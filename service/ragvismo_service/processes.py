@@ -7,6 +7,7 @@ import ctypes
 import os
 import pathlib
 import signal
+import time
 
 SYSTEM = ctypes.CDLL(None)
 # Of Linux: the signal that a process gets when the one that started it ends.
@@ -15,6 +16,8 @@ PR_SET_PDEATHSIG = 1
 NICE, LAST = 10, 19
 # Where Linux groups processes by their sessions, it is told here by how much a group gives way.
 OF_GROUP = pathlib.Path("/proc/self/autogroup")
+# How long Linux takes no word on a group after another one, in seconds, and how often it is said.
+PAUSE, TRIES = 0.1, 100
 
 
 def give_way(is_idle: bool) -> None:
@@ -26,7 +29,17 @@ def give_way(is_idle: bool) -> None:
         if is_idle:
             os.sched_setscheduler(0, os.SCHED_IDLE, os.sched_param(0))
         if os.getsid(0) == os.getpid():
-            OF_GROUP.write_text(str(LAST if is_idle else NICE))
+            say_of_group(LAST if is_idle else NICE)
+
+
+def say_of_group(nice: int) -> None:
+    """Has the group of this process give way, as soon as Linux takes that of who is not root."""
+    for _ in range(TRIES):
+        try:
+            OF_GROUP.write_text(str(nice))
+            break
+        except BlockingIOError:
+            time.sleep(PAUSE)
 
 
 def end_with(parent: int, status: int) -> None:

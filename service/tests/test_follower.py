@@ -13,6 +13,7 @@ import time
 import unittest
 from unittest import mock
 
+from ragvismo_service import processes
 from ragvismo_service.follower import Answerer
 from ragvismo_service.processes import OF_GROUP
 from ragvismo_service.program import Program, Rule
@@ -80,6 +81,14 @@ class Processes(unittest.TestCase):
         self.assertRegex(self.told(True, "idle"), f"^{nice} True (False|.* nice 19)$")
         own = OF_GROUP.read_text().strip() if OF_GROUP.exists() else "False"
         self.assertEqual(self.told(False), f"{nice} False {own}\n")
+
+    def test_giving_way_after_another_group(self) -> None:
+        """Linux does not take it at once, where another process has said so just now."""
+        group, leads = mock.Mock(), mock.patch("os.getsid", return_value=os.getpid())
+        group.write_text.side_effect = BlockingIOError, None
+        with mock.patch("os.nice"), leads, mock.patch.object(processes, "OF_GROUP", group):
+            processes.give_way(False)
+        self.assertEqual(group.write_text.mock_calls, 2 * [mock.call("10")])
 
     def test_ending_with_another(self) -> None:
         """A process that is killed leaves none of those that it started."""
