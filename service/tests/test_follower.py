@@ -110,7 +110,7 @@ class Busy(Service):
     def test_beginning(self) -> None:
         """It takes questions all the same."""
         self.start_sequencer()
-        session, end, look = self.session(7, 1), time.monotonic() + 10, Answerer.last_answer
+        session, end, look = self.session(7, 1), time.monotonic() + 120, Answerer.last_answer
 
         def last_answer(answerer: Answerer) -> bytes:
             self.assertLess(time.monotonic(), end, "it reads for ever")

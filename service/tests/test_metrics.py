@@ -138,7 +138,7 @@ class Busy(Service):
 
     def setUp(self) -> None:
         super().setUp()
-        self.count, self.head, self.end = 0, FIRST_HEAD, time.monotonic() + 10
+        self.count, self.head, self.end = 0, FIRST_HEAD, time.monotonic() + 120
 
     def come(self, *_: object) -> None:
         self.assertLess(time.monotonic(), self.end, "it reads for ever")
