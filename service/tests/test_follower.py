@@ -181,7 +181,7 @@ class Following(Service):
         said = [reply.get("reason", reply["reply"]) for reply in replies]
         names = "balance", "NotAllowed", "positions", "book", "priced", "tried"
         self.assertEqual(said, [*names, "NotAsked", "Syntax"])
-        self.assertEqual(self.redis.xlen("ragvismo:questions"), 0)
+        self.until(self.none_is_left)
         self.assertEqual(self.published(), self.computed())
 
     def test_it_gives_way(self) -> None:
@@ -226,9 +226,17 @@ class Following(Service):
 
     def told_to(self, id: bytes) -> list[Asked]:
         found = list[Asked]()
-        while not found:
-            found = [it for it in self.asker.read(1) if it.question == id]
+
+        def is_told() -> bool:
+            found.extend(it for it in self.asker.read(1) if it.question == id)
+            return bool(found)
+
+        self.until(is_told)
         return found
+
+    def none_is_left(self) -> bool:
+        """Whether no question waits: it is taken out when it is told what was asked."""
+        return bool(self.redis.xlen("ragvismo:questions") == 0)
 
     def test_a_follower_that_is_killed(self) -> None:
         """What it was asked is answered by another one."""
@@ -245,7 +253,7 @@ class Following(Service):
         self.start_follower()
         [told] = self.told_to(id)
         self.assertEqual(told.told()["of"]["reply"], "balance")
-        self.assertEqual(self.redis.xlen("ragvismo:questions"), 0)
+        self.until(self.none_is_left)
 
     def test_a_question_that_ends_programs(self) -> None:
         """It is tried some times and no more."""
