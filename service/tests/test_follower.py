@@ -149,7 +149,7 @@ class Following(Service):
         return process
 
     def ask(self, session: int, body: str) -> Asked:
-        return self.asker.ask(session, body.encode(), 120)
+        return self.asker.ask(session, body.encode(), 600)
 
     def question(self, session: int, body: str) -> Question:
         return Question(session, body.encode(), self.ask(session, body))

@@ -286,7 +286,7 @@ class Users(Service):
             words = [str(HERE / tool), *at, "--program", str(self.program)]
             self.sequencers.append(subprocess.Popen(words, stderr=subprocess.PIPE, text=True))
         asker = Asker(Store(self.as_user("gateway"), 60, "test"))
-        self.assertIn(b'"balance":"0"', asker.ask(1, b"balance,0", 120).answer)
+        self.assertIn(b'"balance":"0"', asker.ask(1, b"balance,0", 600).answer)
 
     def test_who_is_none_of_them(self) -> None:
         """A wrong password ends a tool at once."""
