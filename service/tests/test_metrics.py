@@ -202,7 +202,7 @@ class Metrics(Service):
         """What is told now."""
         try:
             with urllib.request.urlopen(
-                f"http://127.0.0.1:{self.listen}/metrics", timeout=5
+                f"http://127.0.0.1:{self.listen}/metrics", timeout=120
             ) as page:
                 lines = [
                     line for line in page.read().decode().splitlines() if not line.startswith("#")
@@ -246,9 +246,9 @@ class Metrics(Service):
         self.kill(sequencer)
         session.append(2, b"open,2")
         self.until(lambda: self.told()["ragvismo_oldest_wait_seconds"] > 0.2)
-        self.assertEqual(
-            [self.told()[f"ragvismo_{name}"] for name in ("lag_entries", "sequencers")], [1, 0]
-        )
+        # The figures of one look come to be told one after another.
+        names = "ragvismo_lag_entries", "ragvismo_sequencers"
+        self.until(lambda: [self.told()[name] for name in names] == [1, 0])
         self.rules_are_of(self.told())
         self.redis.xtrim("ragvismo:in", 1, approximate=False)
         self.assertEqual(self.sequencers[-1].wait(120), Status.CUT)
