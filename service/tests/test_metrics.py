@@ -2,12 +2,12 @@
 
 from __future__ import annotations
 
+import contextlib
 import importlib.util
 import os
 import pathlib
 import re
 import shutil
-import signal
 import socket
 import subprocess
 import time
@@ -275,26 +275,34 @@ class Watchdog(Service):
     """What systemd is told of a sequencer."""
 
     def test_alive(self) -> None:
+        """It is while nothing is to be done, and not while the program has a message and is
+        silent."""
+        asked = self.folder / "asked"
+        silent = self.script("silent", f"#!/bin/sh\nread -r line\ntouch {asked}\nread -r line\n")
         with socket.socket(socket.AF_UNIX, socket.SOCK_DGRAM) as told:
             told.bind(str(self.folder / "notify"))
-            told.settimeout(30)
+            told.settimeout(120)
             os.environ["NOTIFY_SOCKET"] = str(self.folder / "notify")
             self.addCleanup(os.environ.pop, "NOTIFY_SOCKET")
-            sequencer = self.start_sequencer()
+            self.start_sequencer(silent)
             said: set[bytes] = set()
             while said != {b"READY=1", b"WATCHDOG=1"}:
                 said.add(told.recv(100))
-            self.session(7, 1).ask("open,1")
-            os.kill(self.program_of(sequencer), signal.SIGSTOP)
-            self.append(session=7, number=2, body="open,2")
-            time.sleep(1.5)
             told.setblocking(False)
-            with self.assertRaises(BlockingIOError):
-                while told.recv(100):
-                    pass
-            time.sleep(1.5)
-            with self.assertRaises(BlockingIOError):
-                told.recv(100)
+
+            def words() -> int:
+                """How many came since the last call; who tells waits where ten do."""
+                count = 0
+                with contextlib.suppress(BlockingIOError):
+                    while told.recv(100):
+                        count += 1
+                return count
+
+            self.append(session=7, number=1, body="open,1")
+            self.until(lambda: words() >= 0 and asked.exists())
+            words()
+            time.sleep(2.5)
+            self.assertEqual(words(), 0)
 
     def test_units(self) -> None:
         """The watchdog of each unit that has one waits longer than a tool does for Redis or the
