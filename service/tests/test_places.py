@@ -7,8 +7,8 @@ import json
 import os
 import pathlib
 import shutil
+import signal
 import subprocess
-import time
 import unittest
 
 import redis
@@ -260,22 +260,27 @@ class Users(Service):
         ):
             words = [str(HERE / name), *self.words(user, at), *more]
             out = subprocess.DEVNULL
-            self.sequencers.append(
-                subprocess.Popen(words, stdout=out, stderr=subprocess.PIPE, text=True)
-            )
+            self.sequencers.append(subprocess.Popen(words, stdout=out, stderr=out, text=True))
         session = Session(self.as_user("gateway"), 3, 1)
-        for line in ("open,1", "open,2", "deposit,1,1000", "market,1,1"):
+        for line in ("open,1", "open,2", "deposit,1,100000", "market,1,1"):
             session.ask(line)
-        cleared = list[bytes]()
-        # The solver may be late at first.
-        while not any(b'"mark":"bounded"' in answer for answer in cleared):
-            many = len(cleared)
+        auctioneer = self.sequencers[1].pid
+
+        def cleared() -> list[bytes]:
+            return [it for _, it in self.published() if b'"reply":"cleared"' in it]
+
+        def is_bounded() -> bool:
+            """Whether the solver was no later than the time for proposals, with all orders in the
+            book."""
+            many = len(cleared())
+            os.kill(auctioneer, signal.SIGSTOP)
             for line in ORDERS:
-                session.ask(line.format(1))
-            while len(cleared) == many:
-                time.sleep(0.1)
-                cleared = [it for _, it in self.published() if b'"reply":"cleared"' in it]
-            self.assertLess(many, 20)
+                self.assertEqual(session.ask(line.format(1))["reply"], "placed")
+            os.kill(auctioneer, signal.SIGCONT)
+            self.until(lambda: len(cleared()) > many)
+            return b'"mark":"bounded"' in cleared()[-1]
+
+        self.until(is_bounded, 600)
 
     def test_questions(self) -> None:
         """A follower and one who asks do as these users what they must."""
