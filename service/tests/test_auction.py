@@ -56,6 +56,8 @@ from ragvismo_service import solver
 sys.argv[1:] = sys.argv[3:]
 sys.exit(solver.main())
 """
+# How long a solver has to answer here.
+PATIENT = "--seconds", "600"
 # What is said in a market, a letter for each line.
 LETTERS = {"close": "c", "book": "b", "propose": "p", "clear": "C", "reopen": "o", "settle": "s"}
 AUCTIONS = re.compile("^(c(o|bp*C))*s$")
@@ -132,7 +134,7 @@ class Standing(Service):
     def solver(self, session: int, surplus: str, fills: list[str]) -> subprocess.Popen[str]:
         text = SOLVER.replace("MEASURE", MEASURE).replace("FILLS", json.dumps(fills))
         script = self.script(f"solver-{session}", text.replace("SURPLUS", surplus))
-        return self.start("solver", session, "--solver", script)
+        return self.start("solver", session, "--solver", script, *PATIENT)
 
     def log(self) -> list[tuple[int, str, dict[str, Any]]]:
         """What was taken: session, body and reply of each message, once."""
@@ -166,6 +168,22 @@ class Standing(Service):
             for id, fields in self.redis.xrange("ragvismo:books")
         ]
 
+    def offers(self) -> int:
+        """How many solvers offer something for the book that was told last."""
+        texts = [self.redis.get(key) for key in self.redis.scan_iter("ragvismo:proposals/*")]
+        ids = [it["id"] + b" " for it in self.books()[-1:]]
+        return sum(text.startswith(id) for id in ids for text in texts)
+
+    def auctioneer_after(self, offers: int) -> subprocess.Popen[str]:
+        """One that goes on with an auction when so many solvers have offered, however late they
+        are: another one began it, which would wait for an hour, and is killed."""
+        first = self.auctioneer(1, "--solve", "3600")
+        self.until(lambda: self.offers() == offers, 600)
+        self.kill(first)
+        # Else it would be waited for as long as the solvers were told.
+        self.redis.delete("ragvismo:books")
+        return self.auctioneer(1, "--solve", "0.1")
+
     def connected(self, tool: str) -> int:
         names = [client["name"] for client in self.redis.client_list()]
         return names.count(f"ragvismo-{tool}/ragvismo")
@@ -178,9 +196,8 @@ class Auction(Standing):
     def test_an_auction(self) -> None:
         """The program is the solver; then one order comes, and then the market is settled."""
         self.list_market(1)
-        self.start("solver", FIRST_SOLVER, "--program", self.program)
-        self.until(lambda: self.connected("solver") == 1)
-        auctioneer = self.auctioneer(1, "--solve", "5")
+        self.start("solver", FIRST_SOLVER, "--program", self.program, *PATIENT)
+        auctioneer = self.auctioneer_after(1)
         self.until(lambda: bool(self.replies("cleared")))
         [cleared] = self.replies("cleared")
         self.assertEqual((cleared["mark"], cleared["run"]), ("bounded", "budget"))
@@ -197,15 +214,15 @@ class Auction(Standing):
         self.assertTrue(self.is_open(1))
         self.until(lambda: len(self.replies("cleared")) == 2)
         ran = self.tool("auctioneer", 1, "--settle", "11")
-        self.assertEqual((ran.returncode, auctioneer.wait(60)), (0, 0), ran.stderr)
+        self.assertEqual((ran.returncode, auctioneer.wait(120)), (0, 0), ran.stderr)
         self.assertRegex(self.said_of(1), "^cbpCcbp?Cs$")
 
     def test_four_solvers(self) -> None:
         """One is silent, one floods, one lies and one is good: what the good one offers counts, and
         the audit says so."""
         self.list_market(1)
-        self.start("solver", FIRST_SOLVER, "--solver", "sleep 1000")
-        self.start("solver", FIRST_SOLVER + 1, "--solver", "yes propose,1,")
+        self.start("solver", FIRST_SOLVER, "--solver", "grep silent")
+        self.start("solver", FIRST_SOLVER + 1, "--solver", "yes propose,1,", *PATIENT)
         self.solver(FIRST_SOLVER + 2, *LIE)
         self.solver(FIRST_SOLVER + 3, *WHOLE)
         self.solver(FIRST_SOLVER + 4, *HALF)
@@ -213,7 +230,7 @@ class Auction(Standing):
         flood = Flood(self.redis, f"ragvismo:proposals/{FIRST_SOLVER + 5}")
         flood.start()
         self.addCleanup(flood.stop)
-        self.auctioneer(1, "--solve", "8")
+        self.auctioneer_after(5)
         self.until(lambda: bool(self.replies("cleared")))
         [cleared] = self.replies("cleared")
         self.assertEqual((cleared["surplus"], cleared["mark"]), (WHOLE[0], "bounded"))
@@ -249,6 +266,7 @@ class Auction(Standing):
         other = self.session(1)
         other.ask("close,1")
         self.auctioneer(1, 2, 3)
+        self.until(lambda: self.connected("auctioneer") == 1)
         time.sleep(3)
         self.assertEqual((self.said_of(1), self.said_of(2)), ("", ""))
         other.ask("reopen,1")
@@ -434,7 +452,7 @@ class Kills(Standing):
             ran = self.tool("auctioneer", market, "--settle", "11", "--solve", "0.5")
             self.assertEqual(ran.returncode, 0, ran.stderr)
             self.assertRegex(self.said_of(market), AUCTIONS)
-        self.assertEqual([it.wait(60) for it in running], [0, 0])
+        self.assertEqual([it.wait(120) for it in running], [0, 0])
         self.until(self.all_answered)
         self.assertEqual(self.published(), self.computed())
         ids = [book["id"] for book in self.books()]
