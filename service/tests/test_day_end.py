@@ -120,7 +120,7 @@ class DayEnd(Service):
         return [*given, *map(str, words)]
 
     def end_day(self, *words: object) -> subprocess.CompletedProcess[str]:
-        return subprocess.run(self.call(*words), capture_output=True, text=True, timeout=120)
+        return subprocess.run(self.call(*words), capture_output=True, text=True, timeout=600)
 
     def setUp(self) -> None:
         super().setUp()
@@ -257,26 +257,36 @@ class DayEnd(Service):
             words, stdout=subprocess.PIPE, stderr=subprocess.DEVNULL, text=True
         ) as up:
             assert up.stdout
-            client = up.stdout.readline().partition(": ")[2].split()
-            client[client.index("1")] = "7"
-            ran = subprocess.run(
-                client, input="balance,0\n", capture_output=True, text=True, cwd=HERE.parent
-            )
-            up.terminate()
+            try:
+                client = up.stdout.readline().partition(": ")[2].split()
+                client[client.index("1")] = "7"
+                ran = subprocess.run(
+                    client, input="balance,0\n", capture_output=True, text=True, cwd=HERE.parent
+                )
+            finally:
+                up.terminate()
         self.assertEqual(json.loads(ran.stdout)["line"], number, ran.stderr)
 
     def test_one_at_a_time(self) -> None:
         """Two would write to the same copy, of which one would tell that it holds."""
         self.start_sequencer()
         self.session(7).ask("open,1")
-        pause = f'[ "$1" = audit ] && sleep 3\nexec {self.program} "$@"\n'
-        slow = self.call("--program", self.script("slow", f"#!/bin/sh\n{pause}"))
-        with subprocess.Popen(slow, stdout=subprocess.PIPE, text=True) as first:
+        held = self.folder / "held"
+        held.touch()
+        wait = f'[ "$1" = audit ] && while [ -e {held} ]; do sleep 0.1; done\n'
+        slow = self.script("slow", f'#!/bin/sh\n{wait}exec {self.program} "$@"\n')
+        words = self.call("--program", slow)
+        with subprocess.Popen(words, stdout=subprocess.PIPE, text=True) as first:
             assert first.stdout
-            self.assertRegex(first.stdout.readline(), "^journal: ")
-            second = self.end_day()
-            self.assertEqual((second.returncode, second.stdout), (Status.HELD, ""), second.stderr)
+            try:
+                self.assertRegex(first.stdout.readline(), "^journal: ")
+                second = self.end_day()
+            finally:
+                held.unlink()
+            told = first.communicate()[0]
+        self.assertEqual((second.returncode, second.stdout), (Status.HELD, ""), second.stderr)
         self.assertEqual(first.returncode, 0)
+        self.assertIn("\ncarry-over: ", told)
 
     def test_a_journal_that_was_changed(self) -> None:
         self.start_sequencer()
