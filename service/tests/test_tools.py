@@ -8,6 +8,7 @@ import pathlib
 import re
 import shlex
 import signal
+import socket
 import subprocess
 import time
 import unittest
@@ -21,6 +22,15 @@ from ragvismo_service.places import Place
 from ragvismo_service.statuses import Status
 from ragvismo_service.words import password
 from tests.standing import HERE, Service, free_port
+
+# What a client says of an answer that comes late, which is no fault.
+WAITS = re.compile(r"(?m)^.* waits for its answer\n")
+
+
+def listens(port: int) -> bool:
+    """Whether somebody does at a port of this machine."""
+    with socket.socket() as one:
+        return one.connect_ex(("127.0.0.1", port)) == 0
 
 
 class Tools(Service):
@@ -174,7 +184,7 @@ class Tools(Service):
         ran = subprocess.run(
             closed, shell=True, input="open,3\nopen,4\n", stderr=subprocess.PIPE, text=True
         )
-        self.assertEqual(ran.stderr, "")
+        self.assertEqual(WAITS.sub("", ran.stderr), "")
 
     def test_a_client_that_numbers_its_lines(self) -> None:
         """A file that is sent three times, at first in part, counts once."""
@@ -182,7 +192,7 @@ class Tools(Service):
         lines = ["open,1\n", "deposit,1,1000\n", "deposit,1,500\n"]
         for count in (2, 3, 3):
             ran = self.tool("client.py", 5, "--numbered", input="\n".join(lines[:count]))
-            self.assertEqual((ran.returncode, ran.stderr), (0, ""))
+            self.assertEqual((ran.returncode, WAITS.sub("", ran.stderr)), (0, ""))
         self.assertEqual(json.loads(ran.stdout.splitlines()[-1])["line"], 3)
         self.assertEqual(
             sum(b'"line":' in answer and b'"of"' in answer for _, answer in self.published()), 5
@@ -248,6 +258,7 @@ class Tools(Service):
             words, stdout=subprocess.DEVNULL, stderr=subprocess.DEVNULL, cwd=self.folder
         ) as other:
             try:
+                self.until(lambda: listens(port))
                 ran = self.tool("verify", "--at", port, "--patience", "1")
             finally:
                 other.kill()
