@@ -6,6 +6,7 @@ import os
 import pathlib
 import stat
 import tempfile
+import threading
 import unittest
 from unittest import mock
 
@@ -13,6 +14,7 @@ from ragvismo_service import files
 from ragvismo_service.chain import FIRST_HEAD, Answered, head_after
 from ragvismo_service.journal import Journal, verify
 from ragvismo_service.messages import Entry
+from ragvismo_service.statuses import Ended, Status
 
 # A file that is on the disk, by its name, or the names that the disk knows of a folder.
 Synced = str | set[str]
@@ -78,6 +80,15 @@ class Folders(unittest.TestCase):
         self.assertCountEqual(self.told(), [("one", {"two"}), (self.folder.name, {"one"})])
         files.make(self.folder / "one" / "two")
         self.assertEqual(self.told(), [])
+
+    def test_a_lock_that_is_waited_for(self) -> None:
+        """As long as patience lasts."""
+        held = files.lock(self.folder)
+        with self.assertRaises(Ended) as told:
+            files.lock(self.folder)
+        self.assertEqual(told.exception.status, Status.HELD)
+        threading.Timer(0.2, held.close).start()
+        files.lock(self.folder, 120).close()
 
     def test_a_line_that_was_cut(self) -> None:
         path = self.folder / "lines"

@@ -17,6 +17,7 @@ from typing import Any
 import redis
 
 from client import Refused, Session
+from ragvismo_service import files
 from ragvismo_service.messages import LONGEST_LINE
 from ragvismo_service.places import Place
 from ragvismo_service.statuses import Status
@@ -343,10 +344,13 @@ class Up(unittest.TestCase):
         up = self.start("--auction", "1", "2")
         tools = "sequencer", "follower", "auctioneer", "solver"
         wanted = {f"ragvismo-{tool}/ragvismo" for tool in tools}
-        names = set[str]()
-        while not wanted <= names:
+        watch = self.redis("watch")
+
+        def are_there() -> bool:
             self.assertIsNone(up.poll())
-            names = {client["name"] for client in self.redis("watch").client_list()}
+            return wanted <= {client["name"] for client in watch.client_list()}
+
+        self.held.until(are_there, 600)
         up.terminate()
         self.assertEqual(up.wait(), 128 + signal.SIGTERM)
 
@@ -362,13 +366,15 @@ class Up(unittest.TestCase):
         for line in (2, 3):
             up.kill()
             up.wait()
+            # Its Redis may take longer to end than the next call waits for the lock.
+            files.lock(self.folder, 120).close()
             up = self.start()
             self.assertEqual(self.client("open,1\n")["line"], line)
 
     def test_redis_ends(self) -> None:
         up = self.start()
         os.kill(self.redis("watch").info("server")["process_id"], signal.SIGKILL)
-        self.assertEqual(up.wait(30), Status.NO_REDIS)
+        self.assertEqual(up.wait(120), Status.NO_REDIS)
 
     def test_another_redis_at_the_port(self) -> None:
         words = self.words(self.held.port)
@@ -379,4 +385,4 @@ class Up(unittest.TestCase):
         up = self.start("--followers", "0")
         self.client("open,1\n")
         self.redis("gateway").xadd("ragvismo:in", {"x": 1}, maxlen=1, approximate=False)
-        self.assertEqual(up.wait(30), Status.CUT)
+        self.assertEqual(up.wait(120), Status.CUT)
