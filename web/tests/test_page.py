@@ -11,6 +11,7 @@ from collections.abc import Callable
 from typing import Any
 
 from tests import TOP, WEB, Together, wants
+from tests.trading import free_port
 
 try:
     from selenium import webdriver
@@ -45,7 +46,8 @@ def open_browser() -> Any:
         options.add_argument(flag)
     options.binary_location = "/usr/bin/chromium"
     options.set_capability("goog:loggingPrefs", {"browser": "ALL"})
-    return webdriver.Chrome(service=Service("/usr/bin/chromedriver"), options=options)
+    service = Service("/usr/bin/chromedriver", free_port())
+    return webdriver.Chrome(service=service, options=options)
 
 
 @wants("chromium", "chromedriver", modules=("selenium",))

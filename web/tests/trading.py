@@ -33,6 +33,8 @@ if not WANTED and not PROGRAM.exists():
 IS_SKIPPED = bool(WANTED) or not PROGRAM.exists()
 Told = TypeVar("Told")
 SECRET = "correct horse"
+# What holds the ports of this process.
+HELD: list[socket.socket] = []
 
 
 class Reply(NamedTuple):
@@ -47,9 +49,13 @@ class Reply(NamedTuple):
 
 
 def free_port() -> int:
-    with socket.socket() as one:
-        one.bind(("127.0.0.1", 0))
-        return int(one.getsockname()[1])
+    """A port that no other process is given while this one runs, at which a server may listen, and
+    be started again."""
+    held = socket.socket()
+    held.setsockopt(socket.SOL_SOCKET, socket.SO_REUSEADDR, 1)
+    held.bind(("127.0.0.1", 0))
+    HELD.append(held)
+    return int(held.getsockname()[1])
 
 
 class Visitor:
