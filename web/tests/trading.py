@@ -152,6 +152,9 @@ class Trading(Together):
 
     @classmethod
     def start(cls, part: str) -> None:
+        """Starts a part, unless it runs."""
+        if part in cls.running and cls.running[part].poll() is None:
+            return
         with open(cls.folder / f"{part}.log", "ab") as log:
             words = [str(word) for word in cls.words(part)]
             cls.running[part] = subprocess.Popen(words, stdout=log, stderr=log)
