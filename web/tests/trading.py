@@ -7,6 +7,7 @@ import http.client
 import json
 import os
 import pathlib
+import secrets
 import socket
 import subprocess
 import sys
@@ -61,6 +62,9 @@ def free_port() -> int:
 class Visitor:
     """Who speaks to a gateway as a page does."""
 
+    # How often in all a request may have no answer in time, since a machine may be slow.
+    late = 30
+
     def __init__(self, port: int) -> None:
         self.port, self.cookie = port, ""
         # What is sent with a request for a WebSocket beside the cookie.
@@ -68,17 +72,22 @@ class Visitor:
         self.origin = f"http://127.0.0.1:{port}"
 
     def ask(self, method: str, path: str, body: Any = None, **headers: str) -> Reply:
-        """One request; a header given as "" is left out."""
+        """A request, made again where it had no answer in time; a header given as "" is left
+        out."""
         given = {"Origin": self.origin, "Cookie": self.cookie}
         given |= {name.replace("_", "-"): value for name, value in headers.items()}
-        connection = http.client.HTTPConnection("127.0.0.1", self.port, timeout=60)
-        try:
-            sent = {name: value for name, value in given.items() if value}
-            connection.request(method, path, body, sent)
-            answer = connection.getresponse()
-            return Reply(answer.status, answer.read(), dict(answer.getheaders()))
-        finally:
-            connection.close()
+        sent = {name: value for name, value in given.items() if value}
+        while True:
+            connection = http.client.HTTPConnection("127.0.0.1", self.port, timeout=60)
+            try:
+                connection.request(method, path, body, sent)
+                answer = connection.getresponse()
+                reply = Reply(answer.status, answer.read(), dict(answer.getheaders()))
+            finally:
+                connection.close()
+            if reply.status != 503 or not Visitor.late:
+                return reply
+            Visitor.late -= 1
 
     def get(self, path: str) -> Any:
         return self.ask("GET", path).json()
@@ -89,6 +98,8 @@ class Visitor:
         return reply
 
     def line(self, line: str, key: str = "") -> Reply:
+        """What is said to a line, which counts once under its key."""
+        key = key or secrets.token_hex(8)
         return self.ask("POST", "/lines", line.encode(), Idempotency_Key=key)
 
     def reply(self, line: str) -> Any:
@@ -103,7 +114,7 @@ class Visitor:
             async with aiohttp.ClientSession() as session:
                 url = f"http://127.0.0.1:{self.port}{path}"
                 async with session.ws_connect(url, headers=headers) as talked:
-                    return await talk(talked)
+                    return await asyncio.wait_for(talk(talked), 600)
 
         return asyncio.run(run())
 
@@ -139,7 +150,8 @@ class Trading(Together):
 
     @classmethod
     def words(cls, part: str) -> list[object]:
-        at = "--at", cls.redis_port
+        # So long Redis may be away and the program be silent: longer than a test takes.
+        at = "--at", cls.redis_port, "--patience", 600
         if part == "redis":
             log = "--appendonly", "yes", "--appendfsync", "always", "--save", ""
             where = "--port", cls.redis_port, "--bind", "127.0.0.1", "--dir", cls.folder
