@@ -429,18 +429,13 @@ class Gateway(Trading):
     def test_many_feeds(self) -> None:
         ben = self.visitor("ben")
 
+        async def one_more(*feeds: Any) -> int:
+            return (await asyncio.to_thread(ben.ask, "GET", "/feed")).status
+
         async def none(feed: Any) -> None:
             await feed.receive_json()
 
-        def more(left: int) -> int:
-            async def talk(feed: Any) -> int:
-                return left and await asyncio.to_thread(more, left - 1)
-
-            if not left:
-                return ben.ask("GET", "/feed").status
-            return ben.over_socket(talk)
-
-        self.assertEqual(more(8), 429)
+        self.assertEqual(ben.over_socket(one_more, count=Limits().feeds), 429)
         ben.over_socket(none)
 
     def test_a_feed_is_not_opened_all_the_time(self) -> None:

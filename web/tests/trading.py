@@ -3,6 +3,7 @@
 from __future__ import annotations
 
 import asyncio
+import contextlib
 import http.client
 import json
 import os
@@ -105,16 +106,21 @@ class Visitor:
     def reply(self, line: str) -> Any:
         return self.line(line).json()["reply"]
 
-    def over_socket(self, talk: Callable[[Any], Awaitable[Told]], path: str = "/feed") -> Told:
-        """What comes of a talk over a WebSocket."""
+    def over_socket(
+        self, talk: Callable[..., Awaitable[Told]], path: str = "/feed", count: int = 1
+    ) -> Told:
+        """What comes of a talk over a WebSocket, or over so many."""
 
         async def run() -> Told:
             headers = {"Origin": self.origin, "Cookie": self.cookie, **self.headers}
             headers = {name: value for name, value in headers.items() if value}
-            async with aiohttp.ClientSession() as session:
+            async with aiohttp.ClientSession() as session, contextlib.AsyncExitStack() as opened:
                 url = f"http://127.0.0.1:{self.port}{path}"
-                async with session.ws_connect(url, headers=headers) as talked:
-                    return await asyncio.wait_for(talk(talked), 600)
+                talked = [
+                    await opened.enter_async_context(session.ws_connect(url, headers=headers))
+                    for _ in range(count)
+                ]
+                return await asyncio.wait_for(talk(*talked), 600)
 
         return asyncio.run(run())
 
