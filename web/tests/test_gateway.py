@@ -7,10 +7,11 @@ import http.client
 import json
 import socket
 import subprocess
+import time
 from typing import Any
 
 from tests import TOP, WEB
-from tests.trading import IS_SKIPPED, SECRET, Trading, Visitor
+from tests.trading import IS_SKIPPED, SECRET, Trading, Visitor, let_through
 
 if not IS_SKIPPED:
     import aiohttp
@@ -440,16 +441,15 @@ class Gateway(Trading):
 
     def test_a_feed_is_not_opened_all_the_time(self) -> None:
         """Since all that came may be told to each."""
-        operator, most = self.visitor("operator"), int(Limits().openings.burst)
-
-        async def opened(feed: Any) -> bool:
-            await feed.receive_json()
-            return True
-
-        with self.assertRaises(aiohttp.WSServerHandshakeError) as told:
-            for _ in range(3 * most):
-                operator.over_socket(opened, "/feed?since=0")
-        self.assertEqual(told.exception.status, 429)
+        operator, rate = self.visitor("operator"), Limits().openings
+        since, opened = time.monotonic(), 0
+        for _ in range(3 * int(rate.burst)):
+            try:
+                self.events(operator, 0)
+                opened += 1
+            except aiohttp.WSServerHandshakeError as refusal:
+                self.assertEqual(refusal.status, 429)
+        self.assertLessEqual(opened, let_through(rate, since))
 
 
 def has_ended(one: socket.socket) -> bool:

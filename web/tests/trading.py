@@ -27,6 +27,7 @@ PROGRAM = pathlib.Path(
 WANTED = missing("redis-server", modules=("redis", "aiohttp", "argon2"))
 if not WANTED:
     import aiohttp
+    from ragvismo_gateway.limits import Rate
     from ragvismo_gateway.members import Members
     from ragvismo_gateway.members_file import FILE
 WHY = f"{' and '.join(WANTED)} is missing; tools/setup installs it"
@@ -208,6 +209,11 @@ class Trading(Together):
             for line in text.split():
                 reply = visitor.line(line)
                 assert reply.status == 200, (line, reply)
+
+
+def let_through(rate: Rate, since: float) -> float:
+    """How many a rate has let through since a time, at most."""
+    return rate.burst + rate.each_second * (time.monotonic() - since)
 
 
 def wait_for(port: int) -> None:
