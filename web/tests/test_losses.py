@@ -9,63 +9,67 @@ import threading
 import time
 from typing import Any
 
-from tests.trading import IS_SKIPPED, Trading, Visitor, let_through
+from tests.trading import IS_SKIPPED, Trading, Visitor, let_through, wait_until
 
 if not IS_SKIPPED:
     from ragvismo_gateway.limits import Limits
 
 
 class Sender(threading.Thread):
-    """A member who sends lines, each under its key until it is answered."""
+    """A member who sends lines, each under its key until it is answered, until it is told to
+    end."""
 
-    def __init__(self, visitor: Visitor, lines: int) -> None:
+    def __init__(self, visitor: Visitor) -> None:
         super().__init__(daemon=True)
-        self.visitor, self.lines, self.done, self.repeats = visitor, lines, 0, 0
+        self.visitor, self.is_over, self.lost = visitor, False, 0
         self.told: list[Any] = []
 
     def run(self) -> None:
-        for number in range(self.lines):
-            while not self.is_answered(f"key-{number}"):
-                self.repeats += 1
+        while not self.is_over:
+            while not self.is_answered(f"key-{len(self.told)}"):
                 time.sleep(0.05)
-            self.done += 1
 
     def is_answered(self, key: str) -> bool:
         try:
             reply = self.visitor.line("withdraw,101,1", key)
         except (OSError, http.client.HTTPException):
+            self.lost += 1
             return False
         if reply.status == 200:
             self.told.append(reply.json()["reply"])
         return reply.status == 200
 
+    def wait_for(self, answered: int = 0, lost: int = 0) -> None:
+        """Waits until so many lines more are answered, and so many lost."""
+        answered, lost = len(self.told) + answered, self.lost + lost
+        wait_until(lambda: len(self.told) >= answered and self.lost >= lost, "no line is sent")
+
 
 class Losses(Trading):
-    LINES = 40
-
-    def sent(self, account: int, parts: tuple[str, ...]) -> None:
-        """Each part is killed while lines are sent, and started again; each line counts once."""
+    def test_parts_are_killed(self) -> None:
+        """Each while lines are sent, and started again; each line counts once."""
+        self.say(ana="open,101", operator="deposit,101,1000000")
         ana = self.visitor("ana")
         before = int(ana.get("/balance/101")["balance"])
-        sender = Sender(ana, self.LINES)
+        sender = Sender(ana)
         sender.start()
-        for at, part in enumerate(parts, 1):
-            while sender.done < at * self.LINES // (len(parts) + 1):
-                time.sleep(0.005)
+        for part in ("gateway", "gateway", "redis", "gateway"):
+            sender.wait_for(answered=8)
             self.kill(part)
-            time.sleep(0.2)
+            if part == "gateway":
+                sender.wait_for(lost=1)
+            else:
+                # A line waits meanwhile.
+                time.sleep(0.2)
             self.start(part)
-        sender.join(60)
-        self.assertEqual(sender.done, self.LINES)
-        self.assertGreater(sender.repeats, 0)
+        sender.wait_for(answered=8)
+        sender.is_over = True
+        sender.join(180)
+        self.assertFalse(sender.is_alive())
         after = int(ana.get("/balance/101")["balance"])
-        self.assertEqual(before - after, self.LINES)
+        self.assertEqual(before - after, len(sender.told))
         balances = [int(reply["balance"]) for reply in sender.told]
         self.assertEqual(balances, list(range(before - 1, after - 1, -1)))
-
-    def test_parts_are_killed(self) -> None:
-        self.say(ana="open,101", operator="deposit,101,1000")
-        self.sent(101, ("gateway", "gateway", "redis", "gateway"))
 
 
 class Next(Trading):

@@ -216,12 +216,20 @@ def let_through(rate: Rate, since: float) -> float:
     return rate.burst + rate.each_second * (time.monotonic() - since)
 
 
+def wait_until(holds: Callable[[], bool], told: str) -> None:
+    """Waits until something holds; raises TimeoutError, which tells what did not."""
+    until = time.monotonic() + 180
+    while not holds():
+        if time.monotonic() > until:
+            raise TimeoutError(told)
+        time.sleep(0.01)
+
+
 def wait_for(port: int) -> None:
     """Waits until somebody listens at a port."""
-    until = time.monotonic() + 120
-    while time.monotonic() < until:
+
+    def listens() -> bool:
         with socket.socket() as one:
-            if one.connect_ex(("127.0.0.1", port)) == 0:
-                return
-        time.sleep(0.02)
-    raise TimeoutError(f"nobody listens at {port}")
+            return one.connect_ex(("127.0.0.1", port)) == 0
+
+    wait_until(listens, f"nobody listens at {port}")
