@@ -292,9 +292,11 @@ class Gateway(Trading):
             await feed.receive_json()
             Members(self.folder / FILE).change("eva", "another")
             await feed.send_json({"key": "a", "line": "open,599"})
-            while "status" not in (told := await feed.receive_json()):
-                """Nothing came."""
-            return int(told["status"])
+            while (told := await feed.receive()).type is aiohttp.WSMsgType.TEXT:
+                if "status" in told.json():
+                    return int(told.json()["status"])
+            # It was told just now that nothing came, and has ended by that.
+            return 401
 
         self.assertEqual(eva.over_socket(stay), 401)
         self.assertEqual(eva.ask("GET", "/me").status, 401)
