@@ -7,6 +7,7 @@ import functools
 import http.server
 import json
 import threading
+import time
 from collections.abc import Callable
 from typing import Any
 
@@ -15,10 +16,11 @@ from tests.trading import free_port
 
 try:
     from selenium import webdriver
+    from selenium.common.exceptions import UnexpectedAlertPresentException, WebDriverException
     from selenium.webdriver.chrome.service import Service
     from selenium.webdriver.common.by import By
     from selenium.webdriver.common.keys import Keys
-    from selenium.webdriver.support.ui import Select, WebDriverWait
+    from selenium.webdriver.support.ui import Select
 except ImportError:
     pass
 
@@ -47,12 +49,65 @@ def open_browser() -> Any:
     options.binary_location = "/usr/bin/chromium"
     options.set_capability("goog:loggingPrefs", {"browser": "ALL"})
     service = Service("/usr/bin/chromedriver", free_port())
-    return webdriver.Chrome(service=service, options=options)
+    browser = webdriver.Chrome(service=service, options=options)
+    browser.set_script_timeout(180)
+    return browser
+
+
+class InBrowser(Together):
+    """What a reader of a page does."""
+
+    browser: Any
+
+    def resize(self, size: tuple[int, int]) -> None:
+        given = {"width": size[0], "height": size[1], "deviceScaleFactor": 1}
+        mobile = {"mobile": size == TELEPHONE}
+        self.browser.execute_cdp_cmd("Emulation.setDeviceMetricsOverride", {**given, **mobile})
+        self.until_true(f"matchMedia('(width: {size[0]}px)').matches")
+
+    def part(self, name: str) -> Any:
+        return self.browser.find_element(By.ID, name)
+
+    def text(self, name: str) -> str:
+        return str(self.part(name).text)
+
+    def until(self, holds: Callable[[], bool]) -> None:
+        """Waits until something holds; it does not yet where the page is loaded or drawn anew just
+        now."""
+        end = time.monotonic() + 180
+        while True:
+            try:
+                if holds():
+                    return
+            except UnexpectedAlertPresentException:
+                raise
+            except WebDriverException:
+                pass
+            if time.monotonic() > end:
+                self.picture("failed")
+                self.fail(self.browser.find_element(By.TAG_NAME, "body").text)
+            time.sleep(0.05)
+
+    def until_true(self, script: str) -> None:
+        """Waits until something is true in the page."""
+        self.until(lambda: bool(self.browser.execute_script(f"return {script}")))
+
+    def shot(self, name: str) -> None:
+        """The whole page as a picture, and that nothing of it is wider than the screen."""
+        self.until_true("document.documentElement.scrollWidth <= innerWidth")
+        self.picture(name)
+
+    def picture(self, name: str) -> None:
+        script = "return [innerWidth, document.body.scrollHeight]"
+        width, height = self.browser.execute_script(script)
+        clip = {"x": 0, "y": 0, "width": width, "height": height, "scale": 1}
+        given = {"captureBeyondViewport": True, "clip": clip}
+        told = self.browser.execute_cdp_cmd("Page.captureScreenshot", given)
+        (SHOTS / f"{name}.png").write_bytes(base64.b64decode(told["data"]))
 
 
 @wants("chromium", "chromedriver", modules=("selenium",))
-class Page(Together):
-    browser: Any
+class Page(InBrowser):
     server: http.server.ThreadingHTTPServer
 
     @classmethod
@@ -72,22 +127,8 @@ class Page(Together):
 
     # ---- what a reader does
 
-    def resize(self, size: tuple[int, int]) -> None:
-        given = {"width": size[0], "height": size[1], "deviceScaleFactor": 1}
-        mobile = {"mobile": size == TELEPHONE}
-        self.browser.execute_cdp_cmd("Emulation.setDeviceMetricsOverride", {**given, **mobile})
-
-    def part(self, name: str) -> Any:
-        return self.browser.find_element(By.ID, name)
-
     def is_seen(self, name: str) -> bool:
         return bool(self.part(name).is_displayed())
-
-    def text(self, name: str) -> str:
-        return str(self.part(name).text)
-
-    def until(self, holds: Callable[[], bool]) -> None:
-        WebDriverWait(self.browser, 60).until(lambda _: holds())
 
     def read(self, lines: str) -> None:
         """Pastes lines and reads them."""
@@ -99,18 +140,6 @@ class Page(Together):
         self.part("recheck").click()
         self.until(lambda: self.text("verdict")[:1] in ("✓", "✗"))
         return self.text("verdict")
-
-    def shot(self, name: str) -> None:
-        """The whole page as a picture, and that nothing of it is wider than the screen."""
-        script = (
-            "return [document.documentElement.scrollWidth, innerWidth, document.body.scrollHeight]"
-        )
-        wide, width, height = self.browser.execute_script(script)
-        self.assertLessEqual(wide, width, name)
-        clip = {"x": 0, "y": 0, "width": width, "height": height, "scale": 1}
-        given = {"captureBeyondViewport": True, "clip": clip}
-        told = self.browser.execute_cdp_cmd("Page.captureScreenshot", given)
-        (SHOTS / f"{name}.png").write_bytes(base64.b64decode(told["data"]))
 
     def batches(self) -> Any:
         return Select(self.part("batches"))

@@ -2,13 +2,12 @@
 
 from __future__ import annotations
 
-import base64
 import time
 from collections.abc import Callable
 from typing import Any
 
 from tests import wants
-from tests.test_page import SCREEN, SHOTS, TELEPHONE, open_browser, serve_folder
+from tests.test_page import SCREEN, SHOTS, TELEPHONE, InBrowser, open_browser, serve_folder
 from tests.trading import IS_SKIPPED, SECRET, Trading
 
 if not IS_SKIPPED:
@@ -16,7 +15,7 @@ if not IS_SKIPPED:
     from ragvismo_gateway.members_file import FILE
 
 try:
-    from selenium.common.exceptions import NoSuchElementException, StaleElementReferenceException
+    from selenium.common.exceptions import WebDriverException
     from selenium.webdriver import ActionChains
     from selenium.webdriver.common.by import By
     from selenium.webdriver.common.keys import Keys
@@ -26,9 +25,7 @@ except ImportError:
 
 
 @wants("chromium", "chromedriver", modules=("selenium",))
-class TradingPage(Trading):
-    browser: Any
-
+class TradingPage(InBrowser, Trading):
     @classmethod
     def setUpClass(cls) -> None:
         super().setUpClass()
@@ -43,30 +40,6 @@ class TradingPage(Trading):
         self.resize(SCREEN)
 
     # ---- what a member does
-
-    def resize(self, size: tuple[int, int]) -> None:
-        given = {"width": size[0], "height": size[1], "deviceScaleFactor": 1}
-        mobile = {"mobile": size == TELEPHONE}
-        self.browser.execute_cdp_cmd("Emulation.setDeviceMetricsOverride", {**given, **mobile})
-
-    def part(self, name: str) -> Any:
-        return self.browser.find_element(By.ID, name)
-
-    def text(self, name: str) -> str:
-        return str(self.part(name).text)
-
-    def until(self, holds: Callable[[], bool], told: str = "") -> None:
-        end = time.monotonic() + 180
-        while True:
-            try:
-                if holds():
-                    return
-            except (NoSuchElementException, StaleElementReferenceException):
-                pass
-            if time.monotonic() > end:
-                self.shot("failed")
-                self.fail(told or self.browser.find_element(By.TAG_NAME, "body").text)
-            time.sleep(0.05)
 
     def login(self, name: str, secret: str = SECRET) -> None:
         self.browser.get("about:blank")
@@ -119,18 +92,6 @@ class TradingPage(Trading):
     def press(self, section: str, name: str) -> None:
         path = f"//section[@id='{section}']//button[text()='{name}']"
         self.browser.find_element(By.XPATH, path).click()
-
-    def shot(self, name: str) -> None:
-        """The whole page as a picture, and that nothing of it is wider than the screen."""
-        script = (
-            "return [document.documentElement.scrollWidth, innerWidth, document.body.scrollHeight]"
-        )
-        wide, width, height = self.browser.execute_script(script)
-        self.assertLessEqual(wide, width, name)
-        clip = {"x": 0, "y": 0, "width": width, "height": height, "scale": 1}
-        given = {"captureBeyondViewport": True, "clip": clip}
-        told = self.browser.execute_cdp_cmd("Page.captureScreenshot", given)
-        (SHOTS / f"{name}.png").write_bytes(base64.b64decode(told["data"]))
 
     # ---- tests
 
@@ -349,8 +310,9 @@ class TradingPage(Trading):
                 try:
                     if holds(self.browser.switch_to.active_element):
                         return
-                except StaleElementReferenceException:
-                    pass
+                except WebDriverException:
+                    # It is drawn anew just now.
+                    continue
                 pressed.send_keys(Keys.TAB).perform()
             self.fail("no way by keys")
 
