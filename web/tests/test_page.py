@@ -92,6 +92,17 @@ class InBrowser(Together):
         """Waits until something is true in the page."""
         self.until(lambda: bool(self.browser.execute_script(f"return {script}")))
 
+    def lead(self, by: str, name: str, part: str) -> None:
+        """Clicks on what leads to a part, until that is seen."""
+
+        def is_seen() -> bool:
+            seen = [it for it in self.browser.find_elements(By.ID, part) if it.is_displayed()]
+            if not seen:
+                self.browser.find_element(by, name).click()
+            return bool(seen)
+
+        self.until(is_seen)
+
     def shot(self, name: str) -> None:
         """The whole page as a picture, and that nothing of it is wider than the screen."""
         self.until_true("document.documentElement.scrollWidth <= innerWidth")

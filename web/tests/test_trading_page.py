@@ -2,6 +2,7 @@
 
 from __future__ import annotations
 
+import contextlib
 import time
 from collections.abc import Callable
 from typing import Any
@@ -55,8 +56,7 @@ class TradingPage(InBrowser, Trading):
         self.until(lambda: "live orders" in self.text("market"))
 
     def view(self, name: str) -> None:
-        self.browser.find_element(By.CSS_SELECTOR, f'nav a[href="#{name}"]').click()
-        self.until(lambda: bool(self.part(name).is_displayed()))
+        self.lead(By.CSS_SELECTOR, f'nav a[href="#{name}"]', name)
 
     def field(self, section: str, name: str, place: int = 0) -> Any:
         path = f"//section[@id='{section}']//label[text()='{name}']/following-sibling::*"
@@ -128,8 +128,7 @@ class TradingPage(InBrowser, Trading):
             self.shot(f"telephone-{view}")
         self.resize(SCREEN)
         self.view("batches")
-        self.browser.find_element(By.PARTIAL_LINK_TEXT, "Recheck batch").click()
-        self.until(lambda: bool(self.part("recheck").is_displayed()))
+        self.lead(By.PARTIAL_LINK_TEXT, "Recheck batch", "recheck")
         self.part("recheck").click()
         self.until(lambda: self.text("verdict").startswith("✓ Yes"))
         self.shot("batch")
@@ -352,8 +351,11 @@ class TradingPage(InBrowser, Trading):
     def test_a_login_that_ends(self) -> None:
         """By another password: the page asks for a login, and does not wait for a connection."""
         self.enter("ben")
+        leave = self.browser.find_element(By.XPATH, "//button[text()='Log out']")
         Members(self.folder / FILE).change("ben", SECRET)
-        self.browser.find_element(By.XPATH, "//button[text()='Log out']").click()
+        # It is gone where the page has noticed by itself.
+        with contextlib.suppress(WebDriverException):
+            leave.click()
         self.until(lambda: bool(self.part("login").is_displayed()))
         self.enter("ben")
         Members(self.folder / FILE).change("ben", SECRET)
