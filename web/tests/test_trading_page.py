@@ -52,7 +52,8 @@ class TradingPage(InBrowser, Trading):
 
     def enter(self, name: str) -> None:
         self.login(name)
-        self.until(lambda: self.text("line-state") == "connected")
+        # Where no follower answers in time, that is told too.
+        self.until(lambda: self.text("line-state").startswith("connected"))
         self.until(lambda: "live orders" in self.text("market"))
 
     def view(self, name: str) -> None:
