@@ -59,13 +59,13 @@ class TradingPage(InBrowser, Trading):
     def view(self, name: str) -> None:
         self.lead(By.CSS_SELECTOR, f'nav a[href="#{name}"]', name)
 
-    def field(self, section: str, name: str, place: int = 0) -> Any:
+    def field(self, section: str, name: str) -> Any:
         path = f"//section[@id='{section}']//label[text()='{name}']/following-sibling::*"
-        return self.browser.find_elements(By.XPATH, path)[place]
+        return self.browser.find_element(By.XPATH, path)
 
-    def set(self, section: str, place: int = 0, **values: str) -> None:
+    def set(self, section: str, **values: str) -> None:
         for name, value in values.items():
-            field = self.field(section, name.replace("_", " "), place)
+            field = self.field(section, name.replace("_", " "))
             if field.tag_name == "select":
                 Select(field).select_by_visible_text(value)
             else:
