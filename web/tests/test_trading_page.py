@@ -87,12 +87,13 @@ class TradingPage(InBrowser, Trading):
         self.set("ticket", Side=side, Kind="put")
         self.set("ticket", Strike=strike, Limit_price=price)
         line = self.text("ticket-line")
-        self.part("ticket-send").click()
+        self.press("ticket", "Send the order")
         self.until(lambda: self.text("told") == f"✓ {line}: placed.")
 
     def press(self, section: str, name: str) -> None:
+        """Presses a button once, by a key: what is told above may move it away from a mouse."""
         path = f"//section[@id='{section}']//button[text()='{name}']"
-        self.browser.find_element(By.XPATH, path).click()
+        self.browser.find_element(By.XPATH, path).send_keys(Keys.ENTER)
 
     # ---- tests
 
@@ -228,13 +229,13 @@ class TradingPage(InBrowser, Trading):
         self.until(lambda: self.text("ticket-need") != "")
         told = self.text("ticket-need")
         self.shot("ticket-need")
-        self.part("ticket-send").click()
+        self.press("ticket", "Send the order")
         self.until(lambda: self.text("told").endswith("placed."))
         need = self.visitor("ana").get("/need/101")["need"]
         self.assertEqual(told, f"With it account 101 needs {need} of its 1000 ticks.")
         self.set("ticket", Quantity="1000")
         self.until(lambda: "too much: it would be refused" in self.text("ticket-need"))
-        self.part("ticket-send").click()
+        self.press("ticket", "Send the order")
         said = "refused, since the account could not bear it: it would need"
         self.until(lambda: said in self.text("told"))
 
