@@ -103,6 +103,18 @@ class InBrowser(Together):
 
         self.until(is_seen)
 
+    def unfold(self, part: str) -> None:
+        """Unfolds the tables of a part."""
+
+        def is_unfolded() -> bool:
+            tables = self.part(part).find_elements(By.TAG_NAME, "details")
+            folded = [it for it in tables if not it.get_attribute("open")]
+            for table in folded:
+                table.find_element(By.TAG_NAME, "summary").click()
+            return bool(tables) and not folded
+
+        self.until(is_unfolded)
+
     def shot(self, name: str) -> None:
         """The whole page as a picture, and that nothing of it is wider than the screen."""
         self.until_true("document.documentElement.scrollWidth <= innerWidth")
@@ -172,8 +184,7 @@ class Page(InBrowser):
     def test_each_figure_stands_in_a_table_too(self) -> None:
         self.part("example").click()
         self.until(lambda: self.is_seen("facts"))
-        for details in self.browser.find_elements(By.CSS_SELECTOR, "#picture-tables summary"):
-            details.click()
+        self.unfold("picture-tables")
         told = self.text("picture-tables")
         for row in ("10 -10/7 16/7 10/7", "2 price 12 (1, 12) 4/7 4/7"):
             self.assertIn(row, told)
