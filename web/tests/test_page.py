@@ -172,6 +172,7 @@ class Page(InBrowser):
     def test_examples_are_drawn_and_rechecked(self) -> None:
         for size, kind in ((SCREEN, "screen"), (TELEPHONE, "telephone")):
             self.resize(size)
+            self.browser.refresh()
             self.part("example").click()
             self.until(lambda: self.is_seen("facts"))
             for place in range(len(self.batches().options)):
@@ -236,7 +237,7 @@ class Page(InBrowser):
         self.assertEqual(self.browser.switch_to.active_element.get_attribute("id"), "verdict")
         tab_to("price-0-range")
         pressed.send_keys(Keys.ARROW_RIGHT).perform()
-        self.assertTrue(self.text("kept").startswith("At prices 1, 6 the house keeps 6"))
+        self.until(lambda: self.text("kept").startswith("At prices 1, 6 the house keeps 6"))
 
     def test_a_file_is_opened(self) -> None:
         self.part("file").send_keys(str(TOP / "examples/demo.replies"))
