@@ -296,10 +296,15 @@ class TradingPage(InBrowser, Trading):
     def test_two_clicks_log_in_once(self) -> None:
         self.login("ana", "")
         self.part("password").send_keys(SECRET)
-        button = "document.querySelector('#login-form button')"
-        self.browser.execute_script(f"{button}.click(); {button}.click()")
+        script = """
+            const [ask, asked] = [window.fetch, []];
+            window.fetch = (path, more) => { asked.push(path); return ask(path, more); };
+            const button = document.querySelector("#login-form button");
+            button.click();
+            button.click();
+            return asked;"""
+        self.assertEqual(self.browser.execute_script(script), ["login"])
         self.until(lambda: "live orders" in self.text("market"))
-        time.sleep(1)
         self.assertEqual(len(self.browser.find_elements(By.ID, "book")), 1)
 
     def test_keys_alone(self) -> None:
