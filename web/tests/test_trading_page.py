@@ -145,7 +145,9 @@ class TradingPage(InBrowser, Trading):
         self.enter("ana")
         self.view("ticket")
         self.set("ticket", Strike="11", Kind="butterfly")
-        time.sleep(1)
+        # What is told of the call, which was asked before, is not said of the butterfly.
+        names = "performance.getEntriesByType('resource').map(each => each.name)"
+        self.until_true(f"{names}.some(each => each.endsWith('/try/1/buy/6/1/call,11,1'))")
         alone = "What would be filled now is told of single options alone."
         self.assertEqual(self.text("ticket-try"), alone)
         said = "Buy 1 of: +1 call 8, −2 call 10, +1 call 12, for at most 6 each."
