@@ -116,7 +116,7 @@ export class ProbeView {
             this.slider.value = this.strike.value;
         }
         this.says.textContent = "";
-        renew(this.depth);
+        this.depth.hidden = true;
     }
 
     /** The option as it stands in a line; nothing where it is none. */
@@ -145,7 +145,7 @@ export class ProbeView {
             : reply.reply === "refused" ? `It is ${refusalWords(reply)}.` : reply.told);
         this.limits = isPriced ? limitsOf(reply) : [];
         if (this.limits.length === 0) {
-            renew(this.depth);
+            this.depth.hidden = true;
             return;
         }
         this.tried.want(this.limits.map(({side, price}) =>
@@ -157,8 +157,9 @@ export class ProbeView {
         /** @type {Depth[]} */
         const rows = this.limits.map((limit, at) => ({...limit, fill: replies[at].fill}))
             .filter(row => row.fill !== undefined);
+        // What a reader unfolded stays so until there is something to show again.
+        this.depth.hidden = rows.length === 0;
         if (rows.length === 0) {
-            renew(this.depth);
             return;
         }
         const width = Math.max(280, Math.min(this.place.clientWidth || 560, 620));

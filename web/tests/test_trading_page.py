@@ -3,7 +3,6 @@
 from __future__ import annotations
 
 import contextlib
-import time
 from collections.abc import Callable
 from typing import Any
 
@@ -212,7 +211,11 @@ class TradingPage(InBrowser, Trading):
         self.until(lambda: "asked at 8" in self.text("implied"))
 
     def depth(self, part: str) -> Any:
-        return self.part("depth").find_elements(By.CSS_SELECTOR, f'[data-part="{part}"]')
+        path = f'#depth:not([hidden]) [data-part^="{part}"]'
+        return self.browser.find_elements(By.CSS_SELECTOR, path)
+
+    def tables(self) -> Any:
+        return self.browser.find_elements(By.CSS_SELECTOR, "#market details")
 
     def place_of(self, market: int) -> int:
         """The place of a market among all that can be chosen."""
@@ -372,20 +375,24 @@ class TradingPage(InBrowser, Trading):
         self.until(lambda: bool(self.part("login").is_displayed()))
 
     def test_what_a_reader_set_stays(self) -> None:
-        """Whatever others do meanwhile: tables stay unfolded, and a link has the focus."""
+        """Whatever others do meanwhile, and where no follower answers for a while: tables stay
+        unfolded, and a link has the focus."""
         self.say(operator="market,9,1", eva="sell,103,9,put,12,6,2,1")
         self.say(operator="clear,9,100 clear,9,100")
         self.say(eva="sell,103,9,put,12,6,2,1")
         self.enter("ana")
         self.choose(self.place_of(9))
         self.until(lambda: "put 12" in self.text("book") and bool(self.depth("buy-7")))
-        unfold = "document.querySelectorAll('#market details').forEach(it => it.open = true)"
-        self.browser.execute_script(unfold)
+        self.until(lambda: len(self.tables()) == 2)
+        self.unfold("market")
+        self.kill("follower")
+        self.addCleanup(self.start, "follower")
         self.say(ana="buy,111,9,put,11,1,1,1")
         self.until(lambda: "★ mine: 111" in self.text("book"))
-        time.sleep(1)
-        tables = self.part("market").find_elements(By.TAG_NAME, "details")
-        self.assertEqual([it.get_attribute("open") for it in tables], ["true", "true"])
+        self.until(lambda: "no follower answers" in self.text("implied"))
+        self.start("follower")
+        self.until(lambda: bool(self.depth("sell")))
+        self.until(lambda: [it.get_attribute("open") for it in self.tables()] == ["true"] * 2)
         self.view("batches")
         link = self.browser.find_element(By.CSS_SELECTOR, "#batch-list a")
         told = link.text
