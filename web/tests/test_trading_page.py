@@ -270,9 +270,9 @@ class TradingPage(InBrowser, Trading):
     def test_a_lost_redis(self) -> None:
         self.enter("ana")
         self.view("account")
-        self.kill("redis")
         self.set_in("Withdraw", "Account", "111")
         self.set_in("Withdraw", "Ticks", "3")
+        self.kill("redis")
         self.press("account", "Withdraw")
         self.until(lambda: "sent" in self.text("told"))
         self.start("redis")

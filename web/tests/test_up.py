@@ -62,7 +62,7 @@ class Up(unittest.TestCase):
     def end(self, process: subprocess.Popen[str]) -> None:
         """By Ctrl-C, which a terminal gives to all of its processes; then nobody listens."""
         os.killpg(process.pid, signal.SIGINT)
-        self.assertEqual(process.wait(60), 130)
+        self.assertEqual(process.wait(600), 130)
         for port in (self.port, self.redis):
             with self.assertRaises(OSError):
                 Visitor(port).get("/")
@@ -127,7 +127,7 @@ class Up(unittest.TestCase):
             "timetable": [{"at": at, "line": line} for at, line in steps],
         }
         process, _ = self.up(setting)
-        self.assertEqual(process.wait(120), 0)
+        self.assertEqual(process.wait(600), 0)
         read = "import sys, ragvismo; it = ragvismo.JournalFrames.read(sys.argv[1])"
         tell = "print(*it.batches.surplus, *it.payouts.amount)"
         words = [sys.executable, "-c", f"{read}; {tell}", str(self.folder / "all/tables")]

@@ -49,7 +49,7 @@ class Known(unittest.TestCase):
     def test_the_clock_of_a_market(self) -> None:
         """What comes next there is what its auctioneer or its timetable does, and no other's."""
         market = Market(1, {}, [], 1000)
-        late = now_in_milliseconds() + 60_000
+        late = now_in_milliseconds() + 600_000
         clock = Clock(500, ((1, "clear,2,9"), (late, "settle,2,8")), frozenset((1,)))
         self.assertEqual(clock.next(1, market), {"at": 1500, "does": "clear"})
         self.assertIsNone(clock.next(1, market._replace(is_closed=True)))
@@ -90,7 +90,7 @@ class Known(unittest.TestCase):
             quiet.view, quiet.loop = View(), asyncio.get_running_loop()
             quiet.changed = asyncio.Event()
             quiet._tick()
-            await asyncio.wait_for(feeds.tell(socket, quiet, known, 0), 10)
+            await asyncio.wait_for(feeds.tell(socket, quiet, known, 0), 600)
             self.assertTrue(socket.closed)
             return list(socket.told)
 
