@@ -7,17 +7,15 @@ const turn = () => new Promise(go => setTimeout(go, 0));
 
 test("what is wanted meanwhile is asked one time more", async () => {
     const [answers, ends] = [[], []];
-    const loading = new Loading(() => new Promise(go => answers.push(go)), end => ends.push(end));
+    // The first one is answered when that is said, and each other one at once.
+    const load = () => new Promise(go => answers.push(go) > 1 && go());
+    const loading = new Loading(load, end => ends.push(end));
     const whole = loading.want();
     loading.want();
     loading.want();
     await turn();
     assert.strictEqual(answers.length, 1);
     answers[0]();
-    while (answers.length < 2) {
-        await turn();
-    }
-    answers[1]();
     await whole;
     assert.deepStrictEqual([answers.length, ends], [2, [null, null]]);
 });
