@@ -25,10 +25,11 @@ TAIL = 65_536
 
 
 class Most(NamedTuple):
-    """How many connections are open of one network and of all whose members are not known, for how
-    many seconds each, and of one member; how many requests wait in one."""
+    """How many connections are open of one network (that of a class, say, whose browsers open six
+    each) and of all whose members are not known, for how many seconds each, and of one member; how
+    many requests wait in one."""
 
-    of_network: int = 32
+    of_network: int = 128
     unknown: int = 512
     seconds: float = 60.0
     of_member: int = 64
@@ -60,12 +61,13 @@ class Connections:
         self.members: collections.Counter[str] = collections.Counter()
 
     def begin(self, connection: Connection, network: str) -> None:
-        """Takes a connection; the oldest one ends where there are too many."""
+        """Takes a connection; where there are too many one ends, at rest if there is such a one,
+        which its browser opens again, and the oldest of these."""
         of_network = [it for it, other in self.unknown.items() if other == network]
         if len(of_network) >= self.most.of_network:
-            self.abort(of_network[0])
+            self.abort(max(of_network, key=Connection.is_at_rest))
         if len(self.unknown) >= self.most.unknown:
-            self.abort(next(iter(self.unknown)))
+            self.abort(max(self.unknown, key=Connection.is_at_rest))
         self.unknown[connection] = network
         asyncio.get_running_loop().call_later(self.most.seconds, self.abort, connection)
 
@@ -108,6 +110,10 @@ class Connection(web.RequestHandler):
         super().connection_made(transport)
         if not self.own:
             self.connections.begin(self, network_at(transport))
+
+    def is_at_rest(self) -> bool:
+        """Whether all is answered that was asked by it, and something was."""
+        return self._request_count > 0 and self._waiter is not None and not self._messages
 
     def abort(self) -> None:
         """Ends at once, also before it is secret."""

@@ -399,17 +399,26 @@ class Gateway(Trading):
         self.assertNotIn("Unhandled", log)
 
     def test_connections_of_nobody(self) -> None:
-        """The oldest of many ends, and so does one that asks and asks and reads nothing."""
+        """Of many one at rest ends, and the oldest where there is none; so does one that asks and
+        asks and reads nothing."""
         most = Most()
-        held = [socket.create_connection(("127.0.0.1", self.port), 60) for _ in range(60)]
-        for one in held:
-            self.addCleanup(one.close)
+        asked = f"GET /batch.css HTTP/1.1\r\nHost: 127.0.0.1:{self.port}\r\n\r\n".encode()
+        held = [self.connected() for _ in range(most.of_network - 2)]
+        at_rest = held[-1]
+        at_rest.sendall(asked)
+        self.assertIn(b" 200 ", at_rest.recv(20))
+        self.assertEqual(self.visitor().ask("GET", "/").status, 200)
+        held += [self.connected() for _ in range(9)]
+        self.assertTrue(has_ended(at_rest))
         self.assertTrue(has_ended(held[0]))
         self.assertEqual(self.visitor().ask("GET", "/").status, 200)
-        self.assertTrue(has_ended(held[-most.of_network]))
-        asked = f"GET /batch.css HTTP/1.1\r\nHost: 127.0.0.1:{self.port}\r\n\r\n"
-        held[-1].sendall(asked.encode() * 4 * most.waiting)
+        held[-1].sendall(asked * 4 * most.waiting)
         self.assertTrue(has_ended(held[-1]))
+
+    def connected(self) -> socket.socket:
+        one = socket.create_connection(("127.0.0.1", self.port), 60)
+        self.addCleanup(one.close)
+        return one
 
     def test_unknown_paths(self) -> None:
         ana = self.visitor("ana")

@@ -11,7 +11,10 @@ import subprocess
 
 from tests import WEB, wants
 from tests.test_gateway import has_ended
-from tests.trading import SECRET, Trading
+from tests.trading import IS_SKIPPED, SECRET, Trading
+
+if not IS_SKIPPED:
+    from ragvismo_gateway.connections import Most
 
 
 @wants("openssl")
@@ -28,7 +31,8 @@ class Secure(Trading):
 
     def test_connections_that_do_not_become_secret(self) -> None:
         """They are counted too: the oldest of many ends, and others come in meanwhile."""
-        held = [socket.create_connection(("127.0.0.1", self.port), 60) for _ in range(60)]
+        most = Most().of_network + 28
+        held = [socket.create_connection(("127.0.0.1", self.port), 60) for _ in range(most)]
         for one in held:
             self.addCleanup(one.close)
         held[-1].sendall(b"GET / HTTP/1.1\r\n\r\n")
