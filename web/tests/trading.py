@@ -121,7 +121,8 @@ class Visitor:
                     await opened.enter_async_context(session.ws_connect(url, headers=headers))
                     for _ in range(count)
                 ]
-                return await asyncio.wait_for(talk(*talked), 600)
+                told = await asyncio.wait_for(talk(*talked), 600)
+            return told
 
         return asyncio.run(run())
 
