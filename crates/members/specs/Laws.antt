@@ -20,10 +20,11 @@ use Rattle.order_book.specs.declared.new_order.NewOrder.{NewOrder}
 use Rattle.order_book.specs.Book.{live_of, order_of, with_number}
 use Rattle.order_book.specs.Markets.{Markets, MarketState}
 use Rattle.order_book.specs.Refusals.{batch_refusals}
-use Rattle.exchange_core.specs.ExchangeState.{ExchangeState, all_live}
+use Rattle.exchange_core.specs.ExchangeState.{ExchangeState}
 use Rattle.exchange_core.specs.Kept.{IsKept}
 use Rattle.exchange_core.specs.Orders.{order_of as new_order_of}
 use Rattle.exchange_core.specs.Positions.{positions_in}
+use Rattle.exchange_core.specs.Premiums.{premium_entries}
 use Rattle.exchange_core.specs.Refusals.{by_book}
 use Rattle.exchange_core.specs.Step.{batch_in, cleared_with, step}
 use Rattle.settlement.specs.declared.position.Position.{Position}
@@ -169,11 +170,11 @@ MayCause owners session command before account (cause.Payoff batch) =
 abbrev pub IsEntryBy : Owned → ℕ → Command → ExchangeState → Entry → Type 0
 IsEntryBy owners session command before entry = MayCause owners session command before entry.account entry.cause
 
--- the session owns the account of the order, and the command places it
-abbrev pub IsPlacedBy : Owned → ℕ → Command → ExchangeState → Order → Type 0
-IsPlacedBy owners session command before order =
+-- the session owns the account of the order, and the command places it in the market
+abbrev pub IsPlacedBy : Owned → ℕ → ℕ → Command → ExchangeState → Order → Type 0
+IsPlacedBy owners session market command before order =
     IsOwner owners session order.account
-    × ((new : NewOrder) × (new_order_of command ≡ Some new) × (order ≡ with_number (before.book.accepted + 1) new))
+    × ((new : NewOrder) × (new_order_of command ≡ Some new) × (new.market ≡ market) × (order ≡ with_number (before.book.accepted + 1) new))
 
 -- or the command cancels it
 abbrev pub IsCancelledBy : Owned → ℕ → Command → ExchangeState → Order → Type 0
@@ -181,19 +182,26 @@ IsCancelledBy owners session command before order =
     IsOwner owners session order.account
     × ((number : ℕ) × (command ≡ Cancel order.account number) × (order_of before.book number ≡ Some order))
 
--- or the command clears or settles the market in which it is live
-abbrev pub IsEndedBy : Command → ExchangeState → Order → Type 0
-IsEndedBy (Clear market budget) before order = Contains (live_of before.book market) order
-IsEndedBy (Settle market count prices) before order = Contains (live_of before.book market) order
-IsEndedBy command before order = ⊥
+-- or the command clears or settles the market
+abbrev pub IsEndedBy : ℕ → Command → Type 0
+IsEndedBy market (Clear cleared budget) = cleared ≡ market
+IsEndedBy market (Settle settled count prices) = settled ≡ market
+IsEndedBy market command = ⊥
 
--- what a clear fills of the orders that are live in its market are positions more; a settlement takes
--- out those of its market
-abbrev pub ArePositionsBy : Command → ExchangeState → List Position → Type 0
-ArePositionsBy (Clear market budget) before after =
-    (fills : List Frac128) × (after ≡ before.positions ++ positions_in market (before.book.finished + 1) (batch_in before market).orders fills)
-ArePositionsBy (Settle market count prices) before after = after ≡ outside market before.positions
-ArePositionsBy command before after = ⊥
+-- the positions that are new and the entries, their premiums, are of the same fills of the orders that
+-- are live in the market, none below 0 or above its order's quantity
+pub record IsFilled (market : ℕ) (before after : ExchangeState) : Type 0 where
+  pub fills : List Frac128
+  pub within : AreFractionFills (batch_in before market).orders (map fraction_of fills)
+  pub entries : after.entries ≡ before.entries ++ premium_entries (before.book.finished + 1) (batch_in before market).orders fills
+  pub positions : after.positions ≡ before.positions ++ positions_in market (before.book.finished + 1) (batch_in before market).orders fills
+
+-- positions come and go by the operator alone: a clear fills the orders of its market, a settlement
+-- takes out the positions there
+abbrev pub ArePositionsBy : ℕ → Command → ExchangeState → ExchangeState → Type 0
+ArePositionsBy session (Clear market budget) before after = IsOperator session × IsFilled market before after
+ArePositionsBy session (Settle market count prices) before after = IsOperator session × (after.positions ≡ outside market before.positions)
+ArePositionsBy session command before after = after.positions ≡ before.positions
 
 -- the markets that there are, each with its underlyings and whether it is settled
 abbrev pub listing_of : Markets → List (ℕ × (ℕ × Bool))
@@ -205,20 +213,23 @@ pub record AddsEntries (owners : Owned) (session : ℕ) (command : Command) (bef
   pub joined : after ≡ before.entries ++ added
   pub each : All (IsEntryBy owners session command before) added
 
+-- the orders that are live in a market come and go as the session may make them by the command
+pub record MovesOrders (owners : Owned) (session : ℕ) (command : Command) (before : ExchangeState) (market : ℕ) (after : List Order) : Type 0 where
+  -- one that is live was live there, or is of an account of the session, whose line places it there
+  pub placed : (order : Order) → Contains after order → Contains (live_of before.book market) order ⊎ IsPlacedBy owners session market command before order
+  -- one that was live there is live, or is of an account of the session, whose line cancels it, or the
+  -- operator cleared or settled the market
+  pub gone : (order : Order) → Contains (live_of before.book market) order
+      → Contains after order ⊎ (IsCancelledBy owners session command before order ⊎ (IsOperator session × IsEndedBy market command))
+
 -- what a session said changed this: from before to after, where these were the owners
 pub record IsByRule (owners : Owned) (session : ℕ) (command : Command) (before after : ExchangeState) : Type 0 where
   pub entries : AddsEntries owners session command before after.entries
-  -- a live order was live before, or is of an account of the session, whose line places it
-  pub placed : All (λ (order : Order).
-      Contains (all_live before) order ⊎ IsPlacedBy owners session command before order) (all_live after)
-  -- an order that was live is live, or is of an account of the session, whose line cancels it, or
-  -- the operator cleared or settled its market
-  pub gone : All (λ (order : Order). Contains (all_live after) order
-      ⊎ (IsCancelledBy owners session command before order ⊎ (IsOperator session × IsEndedBy command before order))) (all_live before)
+  pub live : (market : ℕ) → MovesOrders owners session command before market (live_of after.book market)
   -- markets are listed and settled by the operator alone
   pub markets : (listing_of after.book.markets ≡ listing_of before.book.markets) ⊎ IsOperator session
-  -- and positions come and go by its clears and settlements
-  pub positions : (after.positions ≡ before.positions) ⊎ (IsOperator session × ArePositionsBy command before after.positions)
+  -- and where anything is changed, positions are as the command makes them
+  pub positions : (after ≡ before) ⊎ ArePositionsBy session command before after
 
 -- each event of a list, in the state that stands before it
 abbrev pub AreByRule : Managed → List Event → Type 0

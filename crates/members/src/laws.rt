@@ -33,9 +33,10 @@ pub fn others_are_told_nothing()
 {}
 
 /// Whatever is said, an order of an account is placed or cancelled, and its balance lowered by a
-/// withdrawal, only by its owner's session, by the line that names it; deposits, markets, clears and
-/// settlements come from the operator's sessions alone, and these move what accounts have that have
-/// an order or a position there.
+/// withdrawal, only by its owner's session, by the line that names it; an order stays in its market;
+/// deposits, markets, clears and settlements come from the operator's sessions alone, and these move
+/// what accounts have that have an order or a position there. A clear's positions and premiums are of
+/// the same fills of the market's live orders, none above its order's quantity.
 pub fn moves_are_by_rule()
     ensures { MovesAreByRule }
 {}
