@@ -29,7 +29,7 @@ class Most(NamedTuple):
     each) and of all whose members are not known, for how many seconds each, and of one member; how
     many requests wait in one."""
 
-    of_network: int = 128
+    of_network: int = 256
     unknown: int = 512
     seconds: float = 60.0
     of_member: int = 64
